@@ -1,0 +1,4 @@
+pub mod PlanLaws
+pub mod PrintingLaws
+pub mod ReadingLaws
+pub mod RunLaws

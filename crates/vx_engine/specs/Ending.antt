@@ -1,0 +1,64 @@
+-- How the parts of a run end, by the cases of what they answer.
+use Rattle.std.specs.Prelude.{◌≡◌, ◌⊎◌, ⊤, ℕ, ◌≤◌, List, [], length, codes, true, Result, Ok, Err}
+use Rattle.vx_base.specs.Causes.{Rose}
+use Rattle.vx_host.specs.Views.{SinkView, FilesView}
+use Rattle.vx_host.specs.Host.{IsAbsent, IsTooBig, KeepsFiles}
+use Rattle.vx_plan.specs.declared.node.Plan.{Plan}
+use Rattle.vx_plan.specs.declared.refusal.Refusal.{Refusal}
+use Rattle.vx_engine.specs.Run.{file_limit, no_memory_line, file_line, refusal_text, IsPlanOf, Prints, PrintsFront, Says, GoesOn}
+use Rattle.vx_engine.specs.Stop.{status_of, line_of}
+use Rattle.vx_engine.specs.declared.stop.Stop.{Stop}
+use Rattle.vx_engine.specs.declared.stop.Stop.TheVariants.{NotRead, TooBig, Refused, NotWritten, NoMemory}
+
+-- why no plan was loaded
+abbrev pub StopsLoading : FilesView → FilesView → List ℕ → Stop → Type 0
+StopsLoading before after name NotRead = Rose before.faults after.faults × (before.unfailing ≡ true → IsAbsent before name)
+StopsLoading before after name TooBig = IsTooBig before name file_limit
+StopsLoading before after name (Refused refusal) = IsPlanOf before name (Err refusal)
+StopsLoading before after name NotWritten = ⊥
+StopsLoading before after name NoMemory = Unit {0}
+
+-- a plan was loaded, or not for this cause
+abbrev pub Loads : FilesView → FilesView → List ℕ → Result Plan Stop → Type 0
+Loads before after name (Ok plan) = IsPlanOf before name (Ok plan)
+Loads before after name (Err stop) = StopsLoading before after name stop
+
+-- why the output wasn't written whole
+abbrev pub StopsPrinting : SinkView → SinkView → Stop → Type 0
+StopsPrinting before after NotWritten = Rose before.faults after.faults × (before.unfailing ≡ true → ⊥)
+StopsPrinting before after NoMemory = Unit {0}
+StopsPrinting before after NotRead = ⊥
+StopsPrinting before after TooBig = ⊥
+StopsPrinting before after (Refused refusal) = ⊥
+
+-- how a run over a named file ends
+abbrev pub Ends : FilesView → FilesView → SinkView → SinkView → List ℕ → Result ⊤ Stop → Type 0
+Ends before after out out' name (Ok done) = Prints before out out' name
+Ends before after out out' name (Err NotRead) = StopsLoading before after name NotRead × (out' ≡ out)
+Ends before after out out' name (Err TooBig) = StopsLoading before after name TooBig × (out' ≡ out)
+Ends before after out out' name (Err (Refused refusal)) = StopsLoading before after name (Refused refusal) × (out' ≡ out)
+Ends before after out out' name (Err NotWritten) = StopsPrinting out out' NotWritten × PrintsFront before out out' name
+Ends before after out out' name (Err NoMemory) = (out' ≡ out) ⊎ PrintsFront before out out' name
+
+-- the status of a run that ended so
+abbrev pub status_of_run : Result ⊤ Stop → ℕ
+status_of_run (Ok done) = 0
+status_of_run (Err stop) = status_of stop
+
+-- what a run that ended so did to err
+abbrev pub Reports : SinkView → SinkView → List ℕ → Result ⊤ Stop → Type 0
+Reports err err' name (Ok done) = err' ≡ err
+Reports err err' name (Err NotRead) = Says err err' (line_of name NotRead)
+Reports err err' name (Err TooBig) = Says err err' (line_of name TooBig)
+Reports err err' name (Err (Refused refusal)) = Says err err' (line_of name (Refused refusal))
+Reports err err' name (Err NotWritten) = err' ≡ err
+Reports err err' name (Err NoMemory) = Says err err' (line_of name NoMemory)
+
+-- all that a run over a named file did
+pub record Ran (files files' : FilesView) (out out' err err' : SinkView) (name : List ℕ) (result : Result ⊤ Stop) : Type 0 where
+  pub ends : Ends files files' out out' name result
+  pub reports : Reports err err' name result
+  pub files_stay : KeepsFiles files files'
+  pub files_later : files.faults ≤ files'.faults
+  pub out_later : GoesOn out out'
+  pub err_later : GoesOn err err'

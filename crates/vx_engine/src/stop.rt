@@ -1,0 +1,135 @@
+//! Why a run stopped before its output was written, and the status and the line that say so.
+
+ghost use Rattle.std.specs.Prelude.{◌≡◌, IfOk, string_bytes};
+ghost use Rattle.vx_engine.specs.Run.{file_line, refusal_text};
+
+use crate::reading::PlanError;
+use std::alloc::{AllocError, Global};
+use vx_host::{ReadError, SinkError};
+use vx_plan::Refusal;
+
+/// All was written.
+pub const DONE: u8 = 0;
+/// The words aren't lawful.
+pub const BAD_WORDS: u8 = 2;
+/// The file's bytes are no plan.
+pub const REFUSED: u8 = 3;
+/// A write to the output failed.
+pub const NOT_WRITTEN: u8 = 4;
+/// Memory ran out.
+pub const NO_MEMORY: u8 = 5;
+/// The file couldn't be read, or it is too big.
+pub const NOT_READ: u8 = 6;
+
+/// Why a run stopped: one variant a cause.
+#[derive(Debug, Drop)]
+pub(crate) enum Stop {
+    /// The file couldn't be read.
+    NotRead,
+    /// The file has more bytes than a plan file may have.
+    TooBig,
+    /// The file's bytes are no plan.
+    Refused(Refusal),
+    /// A write to the output failed.
+    NotWritten,
+    /// Memory ran out.
+    NoMemory,
+}
+
+impl From<ReadError> for Stop {
+    ghost use Rattle.std.specs.Prelude.{◌≡◌};
+    ghost use Rattle.vx_engine.specs.Stop.{stop_of_read};
+
+    ghost from_gives = { λ error stop. stop ≡ stop_of_read error };
+
+    fn from(error: ReadError) -> Self {
+        match error {
+            ReadError::Failed => Stop::NotRead,
+            ReadError::TooBig { at: _ } => Stop::TooBig,
+            ReadError::NoMemory => Stop::NoMemory,
+        }
+    }
+}
+
+impl From<PlanError> for Stop {
+    ghost use Rattle.std.specs.Prelude.{◌≡◌};
+    ghost use Rattle.vx_engine.specs.Stop.{stop_of_plan};
+
+    ghost from_gives = { λ error stop. stop ≡ stop_of_plan error };
+
+    fn from(error: PlanError) -> Self {
+        match error {
+            PlanError::Refused(refusal) => Stop::Refused(refusal),
+            PlanError::NoMemory => Stop::NoMemory,
+        }
+    }
+}
+
+impl From<SinkError> for Stop {
+    ghost use Rattle.std.specs.Prelude.{◌≡◌};
+    ghost use Rattle.vx_engine.specs.Stop.{stop_of_sink};
+
+    ghost from_gives = { λ error stop. stop ≡ stop_of_sink error };
+
+    fn from(error: SinkError) -> Self {
+        match error {
+            SinkError::Failed => Stop::NotWritten,
+            SinkError::NoMemory => Stop::NoMemory,
+        }
+    }
+}
+
+impl From<AllocError> for Stop {
+    ghost use Rattle.std.specs.Prelude.{◌≡◌};
+    ghost use Rattle.vx_engine.specs.declared.stop.Stop.TheVariants.{NoMemory};
+
+    ghost from_gives = { λ _ stop. stop ≡ NoMemory };
+
+    fn from(_: AllocError) -> Self {
+        Stop::NoMemory
+    }
+}
+
+impl Stop {
+    ghost use Rattle.vx_engine.specs.Stop.{status_of, line_of};
+
+    /// The program's status.
+    pub(crate) fn status(&self) -> u8
+        ensures { result ≡ status_of self.now }
+    {
+        match self {
+            Stop::NotRead | Stop::TooBig => NOT_READ,
+            Stop::Refused(_) => REFUSED,
+            Stop::NotWritten => NOT_WRITTEN,
+            Stop::NoMemory => NO_MEMORY,
+        }
+    }
+
+    /// The line on err, empty where the output failed.
+    pub(crate) fn line(&self, alloc: Global, name: &str) -> Result<String, AllocError>
+        ensures { IfOk result (λ line. string_bytes line ≡ line_of name.now self.now) }
+    {
+        match self {
+            Stop::NotRead => file_line(alloc, name, "cannot be read"),
+            Stop::TooBig => file_line(alloc, name, "too big"),
+            Stop::Refused(refusal) => file_line(alloc, name, refusal_text(*refusal)),
+            Stop::NotWritten => Ok(String::new(alloc)),
+            Stop::NoMemory => String::from_str(alloc, "vxrun: out of memory\n"),
+        }
+    }
+}
+
+fn refusal_text(refusal: Refusal) -> &'static str
+    ensures { result.now ≡ refusal_text refusal }
+{
+    match refusal {
+        Refusal::P1 => "P1",
+        Refusal::P8 => "P8",
+    }
+}
+
+fn file_line(alloc: Global, name: &str, what: &str) -> Result<String, AllocError>
+    ensures { IfOk result (λ line. string_bytes line ≡ file_line name.now what.now) }
+{
+    format!(in alloc; "vxrun: {name}: {what}\n")
+}

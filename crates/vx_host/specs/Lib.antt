@@ -1,0 +1,7 @@
+pub mod Files
+pub mod Host
+pub mod Memory
+pub mod Reading
+pub mod Real
+pub mod Sink
+pub mod Views

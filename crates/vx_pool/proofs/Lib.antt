@@ -1,0 +1,5 @@
+pub mod Keeping
+pub mod Laws
+pub mod QuantumLemmas
+pub mod SumLemmas
+pub mod Walks

@@ -1,0 +1,4 @@
+pub mod Quantum
+pub mod Pools
+pub mod Sums
+pub mod Fields

@@ -1,0 +1,6 @@
+pub mod RowLemmas
+pub mod LookLemmas
+pub mod LogLemmas
+pub mod Keeps
+pub mod Turns
+pub mod Aborts

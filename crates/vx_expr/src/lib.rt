@@ -1,0 +1,16 @@
+//! Expressions over rows: their form, their types, and their value on a row.
+#![tactic(auto)]
+
+mod arithmetic;
+mod evaluation;
+mod expression;
+mod functions;
+mod outcome;
+#[cfg(test)]
+mod tests;
+mod typing;
+
+pub use evaluation::eval_row;
+pub use expression::{Expr, Func};
+pub use outcome::{Fault, Got, TypeError};
+pub use typing::type_of;

@@ -108,6 +108,16 @@ fn bytes_that_are_no_json_are_refused(rt: HostRuntime) -> Result<(), Fail> {
 }
 
 #[test]
+fn a_file_without_its_last_byte_is_refused(rt: HostRuntime) -> Result<(), Fail> {
+    let alloc = rt.alloc();
+    let mut file = file_of(alloc, "[[1],[2]]")?;
+    let _last = file.pop();
+    let got = run_on(&rt, alloc, file, &NONE)?;
+    assert_eq!(rt; got.as_str(), "3||vxrun: p.json: P1\n");
+    Ok(())
+}
+
+#[test]
 fn words_name_one_file(rt: HostRuntime) -> Result<(), Fail> {
     let alloc = rt.alloc();
     let cases: [(&[&str], &str); 5] = [

@@ -1,17 +1,16 @@
 -- What a run over a named file did, put together from what its parts did.
-use Rattle.std.proofs.Common.{◌≡◌, ℕ, List, Result, Ok, Err, OnOk, IfErr, refl, subst, inl, inr}
+use Rattle.std.proofs.Common.{◌≡◌, ℕ, List, Option, Some, Result, Ok, Err, OnOk, IfErr, refl, subst, inr, rules}
 use Rattle.std.specs.Bool.{⊤}
 use Rattle.std.proofs.lemmas.List.Sorted.{IsPermutation-refl}
 use Rattle.vx_base.specs.Told.{gained, GainsSome}
 use Rattle.vx_host.specs.Views.{SinkView, FilesView}
 use Rattle.vx_plan.specs.declared.node.Plan.{Plan}
-use Rattle.vx_plan.specs.declared.node.Node.{Node}
 use Rattle.vx_plan.specs.declared.node.Body.{Body}
 use Rattle.vx_plan.specs.declared.node.Body.TheVariants.{Values}
-use Rattle.vx_engine.specs.Answer.{Answer, BodyAnswer, body_rows, rows_in}
+use Rattle.vx_engine.specs.Answer.{BodyAnswer, body_rows, rows_in}
 use Rattle.vx_engine.specs.Printing.{section_text}
-use Rattle.vx_engine.specs.Run.{IsPlanOf, IsOutputOf}
-use Rattle.vx_engine.specs.Ending.{StopsPrinting, Ends}
+use Rattle.vx_engine.specs.Run.{IsPlanOf, IsOutputOf, IsRun}
+use Rattle.vx_engine.specs.Ending.{StopsPrinting, Ends, Ran, status_of_run}
 use Rattle.vx_engine.specs.declared.stop.Stop.{Stop}
 use Rattle.vx_engine.specs.declared.stop.Stop.TheVariants.{NotRead, TooBig, Refused, NotWritten, NoMemory}
 
@@ -47,3 +46,17 @@ pub ends_after_loading : (before after : FilesView) (out loaded out' : SinkView)
 ends_after_loading before after out loaded out' name plan result same is whole front stops =
     let Outcome : SinkView → Type 0 = λ o. Ends before after o out' name result in
     subst Outcome same (ends_by_printing before after loaded out' name plan result is whole front stops)
+
+-- what a run over a named file did is what a run of that status does
+pub IsRun-from_Ran : (Said : SinkView → SinkView → List ℕ → Type 0) (named : Option (List ℕ)) (files files' : FilesView) (out out' err err' : SinkView) (name : List ℕ) (result : Result ⊤ Stop) (status : ℕ)
+    → named ≡ Some name → status ≡ status_of_run result → Ran Said files files' out out' err err' name result → IsRun Said named files files' out out' err err' status
+IsRun-from_Ran Said named files files' out out' err err' name (Ok done) status is ends ran = rw (is, ends) (search rules)
+IsRun-from_Ran Said named files files' out out' err err' name (Err NotRead) status is ends ran = rw (is, ends) (search rules)
+IsRun-from_Ran Said named files files' out out' err err' name (Err TooBig) status is ends ran = rw (is, ends) (search rules)
+IsRun-from_Ran Said named files files' out out' err err' name (Err (Refused refusal)) status is ends ran = rw (is, ends) (search rules)
+IsRun-from_Ran Said named files files' out out' err err' name (Err NotWritten) status is ends ran = rw (is, ends) (search rules)
+IsRun-from_Ran Said named files files' out out' err err' name (Err NoMemory) status is ends ran = rw (is, ends) (search rules)
+
+pub OnOk-then : {A E P Q : Type 0} (r : Result A E) → (P → Q) → OnOk r P → OnOk r Q
+OnOk-then (Ok a) f p = f p
+OnOk-then (Err e) f p = tt

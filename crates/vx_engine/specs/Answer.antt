@@ -2,7 +2,6 @@
 use Rattle.std.specs.Prelude.{List, IsPermutation}
 use Rattle.vx_value.specs.declared.value.Value.{Value}
 use Rattle.vx_plan.specs.declared.node.Plan.{Plan}
-use Rattle.vx_plan.specs.declared.node.Node.{Node}
 use Rattle.vx_plan.specs.declared.node.Body.{Body}
 use Rattle.vx_plan.specs.declared.node.Body.TheVariants.{Values}
 

@@ -1,11 +1,10 @@
 -- How the parts of a run end, by the cases of what they answer.
-use Rattle.std.specs.Prelude.{◌≡◌, ◌⊎◌, ⊤, ℕ, ◌≤◌, List, [], length, codes, true, Result, Ok, Err}
+use Rattle.std.specs.Prelude.{◌≡◌, ◌⊎◌, ⊤, ℕ, ◌≤◌, List, true, Result, Ok, Err}
 use Rattle.vx_base.specs.Causes.{Rose}
 use Rattle.vx_host.specs.Views.{SinkView, FilesView}
 use Rattle.vx_host.specs.Host.{IsAbsent, IsTooBig, KeepsFiles}
 use Rattle.vx_plan.specs.declared.node.Plan.{Plan}
-use Rattle.vx_plan.specs.declared.refusal.Refusal.{Refusal}
-use Rattle.vx_engine.specs.Run.{file_limit, no_memory_line, file_line, refusal_text, IsPlanOf, Prints, PrintsFront, Says, GoesOn}
+use Rattle.vx_engine.specs.Run.{file_limit, IsPlanOf, Prints, PrintsFront, GoesOn}
 use Rattle.vx_engine.specs.Stop.{status_of, line_of}
 use Rattle.vx_engine.specs.declared.stop.Stop.{Stop}
 use Rattle.vx_engine.specs.declared.stop.Stop.TheVariants.{NotRead, TooBig, Refused, NotWritten, NoMemory}
@@ -46,18 +45,18 @@ status_of_run (Ok done) = 0
 status_of_run (Err stop) = status_of stop
 
 -- what a run that ended so did to err
-abbrev pub Reports : SinkView → SinkView → List ℕ → Result ⊤ Stop → Type 0
-Reports err err' name (Ok done) = err' ≡ err
-Reports err err' name (Err NotRead) = Says err err' (line_of name NotRead)
-Reports err err' name (Err TooBig) = Says err err' (line_of name TooBig)
-Reports err err' name (Err (Refused refusal)) = Says err err' (line_of name (Refused refusal))
-Reports err err' name (Err NotWritten) = err' ≡ err
-Reports err err' name (Err NoMemory) = Says err err' (line_of name NoMemory)
+abbrev pub Reports : (SinkView → SinkView → List ℕ → Type 0) → SinkView → SinkView → List ℕ → Result ⊤ Stop → Type 0
+Reports Said err err' name (Ok done) = err' ≡ err
+Reports Said err err' name (Err NotRead) = Said err err' (line_of name NotRead)
+Reports Said err err' name (Err TooBig) = Said err err' (line_of name TooBig)
+Reports Said err err' name (Err (Refused refusal)) = Said err err' (line_of name (Refused refusal))
+Reports Said err err' name (Err NotWritten) = err' ≡ err
+Reports Said err err' name (Err NoMemory) = Said err err' (line_of name NoMemory)
 
 -- all that a run over a named file did
-pub record Ran (files files' : FilesView) (out out' err err' : SinkView) (name : List ℕ) (result : Result ⊤ Stop) : Type 0 where
+pub record Ran (Said : SinkView → SinkView → List ℕ → Type 0) (files files' : FilesView) (out out' err err' : SinkView) (name : List ℕ) (result : Result ⊤ Stop) : Type 0 where
   pub ends : Ends files files' out out' name result
-  pub reports : Reports err err' name result
+  pub reports : Reports Said err err' name result
   pub files_stay : KeepsFiles files files'
   pub files_later : files.faults ≤ files'.faults
   pub out_later : GoesOn out out'

@@ -76,16 +76,21 @@ pub record PrintsFront (files : FilesView) (out out' : SinkView) (name : List �
 abbrev pub Says : SinkView → SinkView → List ℕ → Type 0
 Says err err' line = GainsSome err.taken err'.taken line
 
--- The file wasn't read, and the line says why: its read failed, or it is too big.
-pub data SaysUnread (files files' : FilesView) (err err' : SinkView) (name : List ℕ) : Type 0 where
-  failed : Rose files.faults files'.faults → Says err err' (file_line name (codes "cannot be read")) → SaysUnread files files' err err' name
-  too_big : IsTooBig files name file_limit → Says err err' (file_line name (codes "too big")) → SaysUnread files files' err err' name
+-- err gained the whole line
+abbrev pub SaysWhole : SinkView → SinkView → List ℕ → Type 0
+SaysWhole err err' line = err'.taken ≡ gained err.taken line
+
+-- The file wasn't read, and the line says why: its read failed, or it is too big. `Said` is how much of the
+-- line err gained, here and below.
+pub data SaysUnread (Said : SinkView → SinkView → List ℕ → Type 0) (files files' : FilesView) (err err' : SinkView) (name : List ℕ) : Type 0 where
+  failed : Rose files.faults files'.faults → Said err err' (file_line name (codes "cannot be read")) → SaysUnread Said files files' err err' name
+  too_big : IsTooBig files name file_limit → Said err err' (file_line name (codes "too big")) → SaysUnread Said files files' err err' name
 
 -- the file's bytes are refused, and the line names the refusal
-pub record SaysRefusal (files : FilesView) (err err' : SinkView) (name : List ℕ) : Type 0 where
+pub record SaysRefusal (Said : SinkView → SinkView → List ℕ → Type 0) (files : FilesView) (err err' : SinkView) (name : List ℕ) : Type 0 where
   pub refusal : Refusal
   pub read : IsPlanOf files name (Err refusal)
-  pub said : Says err err' (file_line name (refusal_text refusal))
+  pub said : Said err err' (file_line name (refusal_text refusal))
 
 -- a sink's count doesn't fall, and where no call is still to fail, none is afterwards
 pub record GoesOn (before after : SinkView) : Type 0 where
@@ -97,20 +102,20 @@ abbrev pub is_status : ℕ → Bool
 is_status status = list_any (λ known. status == known) (0 ∷ 2 ∷ 3 ∷ 4 ∷ 5 ∷ 6 ∷ [])
 
 -- What a run did, by its status. The top call has the same statements as clauses of these names.
-pub record IsRun (named : Option (List ℕ)) (files files' : FilesView) (out out' err err' : SinkView) (status : ℕ) : Type 0 where
+pub record IsRun (Said : SinkView → SinkView → List ℕ → Type 0) (named : Option (List ℕ)) (files files' : FilesView) (out out' err err' : SinkView) (status : ℕ) : Type 0 where
   pub statuses : is_status status ≡ true
   pub bad_words : (status ≡ 2) ↔ (named ≡ None)
-  pub bad_words_said : status ≡ 2 → Says err err' bad_words_line
-  pub not_read : status ≡ 6 → IsSomeAnd named (SaysUnread files files' err err')
+  pub bad_words_said : status ≡ 2 → Said err err' bad_words_line
+  pub not_read : status ≡ 6 → IsSomeAnd named (SaysUnread Said files files' err err')
   pub unreadable_only : status ≡ 6 → files.unfailing ≡ true → IfSome (told_file files named) IsUnreadable
   pub unreadable : IsSomeAnd (told_file files named) IsUnreadable → status ≢ 5 → status ≡ 6
-  pub refused : status ≡ 3 → IsSomeAnd named (SaysRefusal files err err')
+  pub refused : status ≡ 3 → IsSomeAnd named (SaysRefusal Said files err err')
   pub refused_always : IsSomeAnd (told_file files named) IsRefused → status ≢ 5 → status ≢ 6 → status ≡ 3
   pub not_written : status ≡ 4 → Rose out.faults out'.faults
   pub written : out.unfailing ≡ true → status ≢ 4
   pub cut_short : status ≡ 4 → IsSomeAnd named (PrintsFront files out out')
   pub out_of_memory : status ≡ 5 → (out' ≡ out) ⊎ IsSomeAnd named (PrintsFront files out out')
-  pub out_of_memory_said : status ≡ 5 → Says err err' no_memory_line
+  pub out_of_memory_said : status ≡ 5 → Said err err' no_memory_line
   pub printed : status ≡ 0 → IsSomeAnd named (Prints files out out')
   pub untouched : (status ≡ 2) ⊎ (status ≡ 3) ⊎ (status ≡ 6) → out' ≡ out
   pub quiet : (status ≡ 0) ⊎ (status ≡ 4) → err' ≡ err

@@ -35,7 +35,7 @@ pub fn vxrun<R: Threads + Wait + Sync, H: Host, G: Gate + Sync>(
 
     // A file isn't read only where its read failed or it is too big, and the line says which.
     ensures not_read { result ≡ NOT_READ → IsSomeAnd (name_of words.now)
-        (SaysUnread (H.files host.old) (H.files host.new) (H.sink host.old Errors) (H.sink host.new Errors)) }
+        (SaysUnread Says (H.files host.old) (H.files host.new) (H.sink host.old Errors) (H.sink host.new Errors)) }
     // Where no read is to fail, that is exactly where nothing or too much stands under the name.
     ensures unreadable_only { result ≡ NOT_READ → (H.files host.old).unfailing ≡ true
         → IfSome (told_file (H.files host.old) (name_of words.now)) IsUnreadable }
@@ -44,7 +44,7 @@ pub fn vxrun<R: Threads + Wait + Sync, H: Host, G: Gate + Sync>(
 
     // A file that was read is refused exactly where its bytes are no plan, and the line says why.
     ensures refused { result ≡ REFUSED → IsSomeAnd (name_of words.now)
-        (SaysRefusal (H.files host.old) (H.sink host.old Errors) (H.sink host.new Errors)) }
+        (SaysRefusal Says (H.files host.old) (H.sink host.old Errors) (H.sink host.new Errors)) }
     ensures refused_always { IsSomeAnd (told_file (H.files host.old) (name_of words.now)) IsRefused
         → result ≢ NO_MEMORY → result ≢ NOT_READ → result ≡ REFUSED }
 
@@ -75,5 +75,5 @@ pub fn vxrun<R: Threads + Wait + Sync, H: Host, G: Gate + Sync>(
     ensures out_later { GoesOn (H.sink host.old Output) (H.sink host.new Output) }
     ensures err_later { GoesOn (H.sink host.old Errors) (H.sink host.new Errors) }
 {
-    run_words(alloc, words, host)
+    run_words(alloc, words, host).status
 }

@@ -1,4 +1,4 @@
-use Rattle.std.proofs.Common.{rules, arith}
+use Rattle.std.proofs.Common.{arith}
 use Rattle.std.proofs.lemmas.Grind.{common_steps}
 use Rattle.vx_engine.proofs.PrintingLaws.{cells_text-cons}
 use Rattle.vx_engine.proofs.printing.push_cells.Goals as goal

@@ -1,0 +1,12 @@
+pub mod Turning
+pub mod Finding
+pub mod Leaves
+pub mod Changes
+pub mod Shrinking
+pub mod Reclaiming
+pub mod Stepping
+pub mod Ending
+pub mod Requesting
+pub mod Retiring
+pub mod Starting
+pub mod Runs

@@ -1,0 +1,12 @@
+use Rattle.std.proofs.Common.{ℕ, Option, sym, ◌∙◌, ap, unwrap_or}
+use Rattle.vx_arb.proofs.RowLemmas.{max_found, absent, absent_max}
+use Rattle.vx_world.proofs.seats.most_of.Goals as goal
+
+pub returns-in-Some : goal.returns-in-Some
+returns-in-Some c =
+    max_found c.args.live.now c.args.job c.in-Some.place _ (sym c.row_of.ensures ∙ c.in-Some.is)
+
+pub returns-in-None : goal.returns-in-None
+returns-in-None c =
+    sym (ap (λ (m : Option ℕ). unwrap_or m 0)
+    (absent_max c.args.live.now c.args.job (absent c.args.live.now c.args.job (sym c.row_of.ensures ∙ c.in-None.is))))

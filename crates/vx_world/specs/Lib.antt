@@ -1,0 +1,4 @@
+pub mod Plain
+pub mod PlainRule
+pub mod Scenes
+pub mod Steps

@@ -2,6 +2,7 @@
 ghost use Rattle.std.specs.Prelude.{◌≡◌, ◌≢◌, ◌+◌, ◌-◌, ◌<◌, ◌≤◌, ◌↔◌, true, false, Some, None, length, IsTrue, IsErr, IsSomeAnd, IfSome, IfNone, IfOk, IfErr, OnOk, OnErr, option_map};
 ghost use Rattle.vx_arb.specs.Books.{IsBooks, Asked, Stands, IsReclaimed, new_books, after_admit, after_begin, request_for, is_met, share_of, moved_of, wanted_of, with_given, after_taking, after_shrink, after_reclaim, shrink_entry, reclaim_entry, with_taken, after_move, after_look, after_grant, is_unmet, is_unmet_total, cause_of, note_for, after_abort, after_retire, is_requester};
 ghost use Rattle.vx_arb.specs.Rows.{is_live, capacity_at, max_in, IsTied};
+ghost use Rattle.vx_arb.specs.Members.{IsWithin};
 ghost use Rattle.vx_arb.specs.Unmet.{IsJust};
 ghost use Rattle.vx_arb.specs.Keeping.{Takes, MayTake};
 
@@ -184,6 +185,7 @@ impl<L: Names> Arb<L> {
         ensures stands { Stands self.new request.new }
         ensures job { M.job_is member.new ≡ M.job_is member.old }
         ensures tied { IsTied self.new.live (M.job_is member.new) (M.capacity_is member.new) }
+        ensures within { IsWithin (M.capacity_is member.new) (M.reserved_is member.new) (M.unused_is member.new) }
         ensures rule { IsBooks self.new }
     {
         let job = member.job();
@@ -209,6 +211,7 @@ impl<L: Names> Arb<L> {
         ensures stands { Stands self.new request.new }
         ensures job { M.job_is member.new ≡ M.job_is member.old }
         ensures tied { IsTied self.new.live (M.job_is member.new) (M.capacity_is member.new) }
+        ensures within { IsWithin (M.capacity_is member.new) (M.reserved_is member.new) (M.unused_is member.new) }
         ensures rule { IsBooks self.new }
     {
         let job = member.job();
@@ -259,6 +262,7 @@ impl<L: Names> Arb<L> {
 
         ensures job { M.job_is member.new ≡ M.job_is member.old }
         ensures tied { IsTied self.new.live (M.job_is member.new) (M.capacity_is member.new) }
+        ensures within { OnOk result (IsWithin (M.capacity_is member.new) (M.reserved_is member.new) (M.unused_is member.new)) }
         ensures rule { IsBooks self.new }
     {
         let need = request.need();
@@ -287,6 +291,7 @@ impl<L: Names> Arb<L> {
         ensures member { M.aborts victim.old result victim.new }
         ensures job { M.job_is victim.new ≡ M.job_is victim.old }
         ensures tied { IsTied self.new.live (M.job_is victim.new) (M.capacity_is victim.new) }
+        ensures within { IsWithin (M.capacity_is victim.new) (M.reserved_is victim.new) (M.unused_is victim.new) }
         ensures rule { IsBooks self.new }
     {
         let job = victim.job();

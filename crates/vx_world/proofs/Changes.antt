@@ -2,13 +2,14 @@
 use Rattle.std.proofs.Common.{◌≡◌, ◌≢◌, ℕ, ◌+◌, ◌-◌, Bool, true, false, eqb, Option, Some, None, IsSomeAnd, MatchOption, List, get_or, set, refl, sym, ◌∙◌, ap, subst, arith}
 use Rattle.std.specs.List.{position, sum_by}
 use Rattle.std.specs.Option.{option_map_or}
+use Rattle.std.proofs.lemmas.List.Elements.{All-set}
 use Rattle.vx_arb.specs.declared.members.Member.{Ghosts}
 use Rattle.vx_arb.specs.declared.entries.Entry.{Entry}
 use Rattle.vx_arb.specs.declared.rows.Live.{Live}
 use Rattle.vx_arb.specs.Books.{Books, Asked, IsBooks, Stands, after_taking}
 use Rattle.vx_arb.specs.Rows.{is_live, capacity_at, with_capacity, IsTied}
 use Rattle.vx_arb.proofs.RowLemmas.{capacity_set, capacity_others, live_set, sum_set}
-use Rattle.vx_world.specs.Scenes.{Scene, IsWorld, member_of, with_member}
+use Rattle.vx_world.specs.Scenes.{Scene, IsWorld, Fits, member_of, with_member}
 use Rattle.vx_world.specs.Steps.{Turns, on_request}
 use Rattle.vx_world.proofs.Turning.{found_job, world_turned}
 use Rattle.vx_world.proofs.Finding.{place_at, found_at, set_at}
@@ -82,12 +83,13 @@ seated_turns ghosts members job place before after change s turned = record {
 }
 
 -- the world keeps its rule
-pub world_changed : {M L : Type 0} (ghosts : Ghosts M L) (scene : Scene M) (job place : ℕ) (before after : M) (books : Books) (request : Option Asked) → IsWorld ghosts scene → Seated ghosts scene.members job place before → Rewrites scene.books books job → IsBooks books → ghosts.job_is after ≡ ghosts.job_is before → capacity_at books.live job ≡ ghosts.capacity_is after → MatchOption request (books.standing ≡ None) (Stands books) → IsWorld ghosts (record { books = books; members = set scene.members place after; request = request })
-world_changed ghosts scene job place before after books request w s r b same row stands =
+pub world_changed : {M L : Type 0} (ghosts : Ghosts M L) (scene : Scene M) (job place : ℕ) (before after : M) (books : Books) (request : Option Asked) → IsWorld ghosts scene → Seated ghosts scene.members job place before → Rewrites scene.books books job → IsBooks books → ghosts.job_is after ≡ ghosts.job_is before → Fits ghosts after → capacity_at books.live job ≡ ghosts.capacity_is after → MatchOption request (books.standing ≡ None) (Stands books) → IsWorld ghosts (record { books = books; members = set scene.members place after; request = request })
+world_changed ghosts scene job place before after books request w s r b same fits row stands =
     world_turned ghosts scene _ job before after w (record {
       found = seated_found ghosts scene.members job place before s;
       same_job = same;
       members_are = seated_set ghosts scene.members job place before after s;
+      within = All-set (Fits ghosts) scene.members place after fits w.within;
       books_hold = b;
       total = r.total;
       moved = omega (arith, r.moved, row, seated_row ghosts scene job place before w s);

@@ -12,7 +12,7 @@ use Rattle.vx_arb.specs.Unmet.{saw_nothing, saw_no_unused}
 use Rattle.vx_arb.proofs.Aborts.{stands_well}
 use Rattle.vx_world.specs.declared.events.Event.TheVariants.{Grant, Abort}
 use Rattle.vx_world.specs.declared.events.Reply.TheVariants.{Granted, Aborted}
-use Rattle.vx_world.specs.Scenes.{Scene, IsWorld}
+use Rattle.vx_world.specs.Scenes.{Scene, IsWorld, Fits}
 use Rattle.vx_world.specs.Steps.{Step, Turns, OnAsked, is_lawful, is_running, on_member, on_request}
 use Rattle.vx_world.proofs.Finding.{both}
 use Rattle.vx_world.proofs.Stepping.{seated_passes, not_true}
@@ -43,12 +43,12 @@ grant_made {M} ghosts scene now is request place before after books lawful s req
           (seated_turns ghosts scene.members request.job place before after (λ before after. ghosts.raises before request.need after) s raised, books_are, refl));
     }
 
-pub grant_keeps : {M L : Type 0} (ghosts : Ghosts M L) (scene now : Scene M) → scene ≡ now → (request : Asked) (place : ℕ) (before after : M) (books : Books) → IsWorld ghosts scene → IsTrue (is_lawful ghosts now Grant) → scene.request ≡ Some request → Seated ghosts scene.members request.job place before → books ≡ after_grant scene.books request → ghosts.job_is after ≡ ghosts.job_is before → IsTied books.live (ghosts.job_is after) (ghosts.capacity_is after) → IsBooks books → IsWorld ghosts (record { books = books; members = set scene.members place after; request = None })
-grant_keeps {M} ghosts scene now is request place before after books w lawful asked s are same tied rule =
+pub grant_keeps : {M L : Type 0} (ghosts : Ghosts M L) (scene now : Scene M) → scene ≡ now → (request : Asked) (place : ℕ) (before after : M) (books : Books) → IsWorld ghosts scene → IsTrue (is_lawful ghosts now Grant) → scene.request ≡ Some request → Seated ghosts scene.members request.job place before → books ≡ after_grant scene.books request → ghosts.job_is after ≡ ghosts.job_is before → IsTied books.live (ghosts.job_is after) (ghosts.capacity_is after) → Fits ghosts after → IsBooks books → IsWorld ghosts (record { books = books; members = set scene.members place after; request = None })
+grant_keeps {M} ghosts scene now is request place before after books w lawful asked s are same tied fits rule =
     let its : ghosts.job_is before ≡ request.job = seated_job ghosts scene.members request.job place before s in
     let live = (grant_may ghosts scene now is request lawful asked).1 in
     let rewrites = rewrites_set scene.books (after_grant scene.books request) request.job (capacity_at scene.books.live request.job + request.need) w.books_hold (subst IsBooks are rule) live refl refl in
-    world_changed ghosts scene request.job place before after books None w s (rw are rewrites) rule same
+    world_changed ghosts scene request.job place before after books None w s (rw are rewrites) rule same fits
     (row_now books request.job (ghosts.job_is after) (ghosts.capacity_is after) (same ∙ its) tied) (ap (λ (b : Books). b.standing) are)
 
 -- a job that a request may abort is live
@@ -109,11 +109,11 @@ abort_made {M} ghosts scene now is job place before after request note books law
           ));
     }
 
-pub abort_keeps : {M L : Type 0} (ghosts : Ghosts M L) (scene now : Scene M) → scene ≡ now → (job place : ℕ) (before after : M) (request : Asked) (books : Books) → IsWorld ghosts scene → IsTrue (is_lawful ghosts now (Abort job)) → scene.request ≡ Some request → Seated ghosts scene.members job place before → books ≡ after_abort scene.books request (ghosts.job_is before) → ghosts.job_is after ≡ ghosts.job_is before → IsTied books.live (ghosts.job_is after) (ghosts.capacity_is after) → IsBooks books → IsWorld ghosts (record { books = books; members = set scene.members place after; request = None })
-abort_keeps {M} ghosts scene now is job place before after request books w lawful asked s books_are same tied rule =
+pub abort_keeps : {M L : Type 0} (ghosts : Ghosts M L) (scene now : Scene M) → scene ≡ now → (job place : ℕ) (before after : M) (request : Asked) (books : Books) → IsWorld ghosts scene → IsTrue (is_lawful ghosts now (Abort job)) → scene.request ≡ Some request → Seated ghosts scene.members job place before → books ≡ after_abort scene.books request (ghosts.job_is before) → ghosts.job_is after ≡ ghosts.job_is before → IsTied books.live (ghosts.job_is after) (ghosts.capacity_is after) → Fits ghosts after → IsBooks books → IsWorld ghosts (record { books = books; members = set scene.members place after; request = None })
+abort_keeps {M} ghosts scene now is job place before after request books w lawful asked s books_are same tied fits rule =
     let its : ghosts.job_is before ≡ job = seated_job ghosts scene.members job place before s in
     let live = abort_live ghosts scene now is job request w lawful asked in
     let are : books ≡ after_abort scene.books request job = books_are ∙ ap (λ n. after_abort scene.books request n) its in
     let rewrites = rewrites_set scene.books (after_abort scene.books request job) job (capacity_at scene.books.live job - capacity_at scene.books.live job) w.books_hold (subst IsBooks are rule) live refl refl in
-    world_changed ghosts scene job place before after books None w s (rw are rewrites) rule same
+    world_changed ghosts scene job place before after books None w s (rw are rewrites) rule same fits
     (row_now books job (ghosts.job_is after) (ghosts.capacity_is after) (same ∙ its) tied) (ap (λ (b : Books). b.standing) are)

@@ -9,4 +9,5 @@ pub mod Ending
 pub mod Requesting
 pub mod Retiring
 pub mod Starting
+pub mod Looking
 pub mod Runs

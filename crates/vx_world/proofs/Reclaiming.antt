@@ -5,7 +5,7 @@ use Rattle.vx_arb.specs.Books.{Books, Asked, IsBooks, Stands, IsReclaimed, moved
 use Rattle.vx_arb.specs.Rows.{is_live, IsTied}
 use Rattle.vx_world.specs.declared.events.Event.TheVariants.{Reclaim}
 use Rattle.vx_world.specs.declared.events.Reply.TheVariants.{Freed}
-use Rattle.vx_world.specs.Scenes.{Scene, IsWorld}
+use Rattle.vx_world.specs.Scenes.{Scene, IsWorld, Fits}
 use Rattle.vx_world.specs.Steps.{Step, Reclaims, OnAsked, is_lawful, is_running, on_request, may_reclaim}
 use Rattle.vx_world.proofs.Finding.{both}
 use Rattle.vx_world.proofs.Changes.{Seated, seated_job, seated_tied, seated_turns, rewrites_taken, world_changed, row_now, running_live, on_asked}
@@ -33,11 +33,11 @@ reclaim_made {M} ghosts scene now is job place before after request asked amount
           (on_asked scene.request request (λ request. Reclaims ghosts scene request job amount new) req reclaims);
     }
 
-pub reclaim_keeps : {M L : Type 0} (ghosts : Ghosts M L) (scene now : Scene M) → scene ≡ now → (job place : ℕ) (before after : M) (asked : Asked) (amount moved : ℕ) (books : Books) → IsWorld ghosts scene → IsTrue (is_lawful ghosts now (Reclaim job)) → Seated ghosts scene.members job place before → books ≡ after_reclaim scene.books (ghosts.job_is before) amount moved → Stands books asked → ghosts.job_is after ≡ ghosts.job_is before → IsTied books.live (ghosts.job_is after) (ghosts.capacity_is after) → IsBooks books → IsWorld ghosts (record { books = books; members = set scene.members place after; request = Some asked })
-reclaim_keeps {M} ghosts scene now is job place before after asked amount moved books w lawful s books_are stands same tied rule =
+pub reclaim_keeps : {M L : Type 0} (ghosts : Ghosts M L) (scene now : Scene M) → scene ≡ now → (job place : ℕ) (before after : M) (asked : Asked) (amount moved : ℕ) (books : Books) → IsWorld ghosts scene → IsTrue (is_lawful ghosts now (Reclaim job)) → Seated ghosts scene.members job place before → books ≡ after_reclaim scene.books (ghosts.job_is before) amount moved → Stands books asked → ghosts.job_is after ≡ ghosts.job_is before → IsTied books.live (ghosts.job_is after) (ghosts.capacity_is after) → Fits ghosts after → IsBooks books → IsWorld ghosts (record { books = books; members = set scene.members place after; request = Some asked })
+reclaim_keeps {M} ghosts scene now is job place before after asked amount moved books w lawful s books_are stands same tied fits rule =
     let its : ghosts.job_is before ≡ job = seated_job ghosts scene.members job place before s in
     let live = lawful_live ghosts scene job (subst (λ (n : Scene M). is_lawful ghosts n (Reclaim job) ≡ true) (sym is) lawful) in
     let are : books ≡ after_reclaim scene.books job amount moved = books_are ∙ ap (λ n. after_reclaim scene.books n amount moved) its in
     let rewrites = rewrites_taken scene.books job moved (reclaim_entry job amount moved) w.books_hold (subst IsBooks are rule) live in
-    world_changed ghosts scene job place before after books (Some asked) w s (rw are rewrites) rule same
+    world_changed ghosts scene job place before after books (Some asked) w s (rw are rewrites) rule same fits
     (row_now books job (ghosts.job_is after) (ghosts.capacity_is after) (same ∙ its) tied) stands

@@ -7,7 +7,7 @@ use Rattle.vx_arb.specs.Rows.{is_live, capacity_at, without}
 use Rattle.vx_arb.proofs.RowLemmas.{gone, absent_capacity, capacity_kept, live_kept}
 use Rattle.vx_world.specs.declared.events.Event.TheVariants.{Retire}
 use Rattle.vx_world.specs.declared.events.Reply.TheVariants.{Retired}
-use Rattle.vx_world.specs.Scenes.{Scene, IsWorld}
+use Rattle.vx_world.specs.Scenes.{Scene, IsWorld, Fits}
 use Rattle.vx_world.specs.Steps.{Step, Turns, is_lawful, on_member, on_request}
 use Rattle.vx_world.proofs.Finding.{both}
 use Rattle.vx_world.proofs.Stepping.{seated_passes}
@@ -44,11 +44,11 @@ still_stands : (request : Option Asked) (old new : Books) → new.standing ≡ o
 still_stands None old new same keeps h = same ∙ h
 still_stands (Some r) old new same keeps h = keeps r h
 
-pub retire_keeps : {M L : Type 0} (ghosts : Ghosts M L) (scene now : Scene M) → scene ≡ now → (job place bytes : ℕ) (before after : M) (books : Books) → IsWorld ghosts scene → IsTrue (is_lawful ghosts now (Retire job)) → Seated ghosts scene.members job place before → bytes ≡ ghosts.capacity_is before → ghosts.job_is after ≡ ghosts.job_is before → ghosts.capacity_is after ≡ ghosts.capacity_is before - bytes → books ≡ after_retire scene.books job → ((r : Asked) → Stands scene.books r → Stands books r) → IsBooks books → IsWorld ghosts (record { books = books; members = set scene.members place after; request = scene.request })
-retire_keeps {M} ghosts scene now is job place bytes before after books w lawful s whole same less are stands rule =
+pub retire_keeps : {M L : Type 0} (ghosts : Ghosts M L) (scene now : Scene M) → scene ≡ now → (job place bytes : ℕ) (before after : M) (books : Books) → IsWorld ghosts scene → IsTrue (is_lawful ghosts now (Retire job)) → Seated ghosts scene.members job place before → bytes ≡ ghosts.capacity_is before → ghosts.job_is after ≡ ghosts.job_is before → ghosts.capacity_is after ≡ ghosts.capacity_is before - bytes → Fits ghosts after → books ≡ after_retire scene.books job → ((r : Asked) → Stands scene.books r → Stands books r) → IsBooks books → IsWorld ghosts (record { books = books; members = set scene.members place after; request = scene.request })
+retire_keeps {M} ghosts scene now is job place bytes before after books w lawful s whole same less fits are stands rule =
     let live : is_live scene.books.live job ≡ true = (retire_may ghosts scene now is job place before lawful s).0 in
     let none : capacity_at (without scene.books.live job) job ≡ 0 = absent_capacity (without scene.books.live job) job (gone scene.books.live job live (w.books_hold.single job)) in
     let row : capacity_at books.live job ≡ 0 = ap (λ (b : Books). capacity_at b.live job) are ∙ none in
-    world_changed ghosts scene job place before after books scene.request w s (rw are (rewrites_retired scene.books job w.books_hold live)) rule same
+    world_changed ghosts scene job place before after books scene.request w s (rw are (rewrites_retired scene.books job w.books_hold live)) rule same fits
     (omega (arith, row, less, whole))
     (still_stands scene.request scene.books books (ap (λ (b : Books). b.standing) are) stands w.stands)

@@ -5,7 +5,9 @@ use Rattle.vx_arb.specs.declared.members.Member.{Ghosts}
 use Rattle.vx_world.specs.declared.events.Event.{Event}
 use Rattle.vx_world.specs.declared.events.Reply.{Reply}
 use Rattle.vx_world.specs.Scenes.{Scene, IsWorld}
+use Rattle.vx_world.specs.Looks.{looks_of}
 use Rattle.vx_world.specs.Steps.{Step, Run, Ran}
+use Rattle.vx_world.proofs.Looking.{held_now, run_watched}
 
 run_more : {M L : Type 0} (ghosts : Ghosts M L) (old mid new : Scene M) (events : List Event) (replies : List Reply) (event : Event) (reply : Reply) → Run ghosts old events replies mid → Step ghosts mid event reply new → Run ghosts old (events ++ event ∷ []) (replies ++ reply ∷ []) new
 run_more {M} ghosts old mid new [] [] event reply r s = (new, (subst (λ (o : Scene M). Step ghosts o event reply new) r s, refl))
@@ -35,7 +37,14 @@ goes_more ghosts old mid new events before after made event first reply g within
     }
 
 pub goes_ran : {M L : Type 0} (ghosts : Ghosts M L) (old new : Scene M) (events : List Event) (before after : List Reply) (made : ℕ) → Goes ghosts old events before made after new → Ran ghosts old events before after new
-goes_ran ghosts old new events before after made g = record { gained = g.gained; added = g.added; run = rw g.count g.run }
+goes_ran ghosts old new events before after made g =
+    let run : Run ghosts old (take (length g.gained) events) g.gained new = rw g.count g.run in
+    record {
+      gained = g.gained;
+      added = g.added;
+      run = run;
+      looks = run_watched ghosts (looks_of old.request) old new (take (length g.gained) events) g.gained run (held_now old.request);
+    }
 
 -- how far a loop over the events has come: `had` and `has` are how many replies there were and are, and there is
 -- room for the rest

@@ -6,7 +6,7 @@ use Rattle.vx_arb.specs.Books.{Books, Asked, IsBooks, Stands, share_of, shrink_e
 use Rattle.vx_arb.specs.Rows.{is_live, IsTied}
 use Rattle.vx_world.specs.declared.events.Event.TheVariants.{Shrink}
 use Rattle.vx_world.specs.declared.events.Reply.TheVariants.{Freed}
-use Rattle.vx_world.specs.Scenes.{Scene, IsWorld}
+use Rattle.vx_world.specs.Scenes.{Scene, IsWorld, Fits}
 use Rattle.vx_world.specs.Steps.{Step, Shrinks, OnAsked, is_lawful, is_running, on_request, may_shrink}
 use Rattle.vx_world.proofs.Finding.{both}
 use Rattle.vx_world.proofs.Changes.{Seated, seated_job, seated_tied, seated_turns, rewrites_taken, world_changed, row_now, running_live, asked_passes, on_asked}
@@ -41,11 +41,11 @@ shrink_made {M} ghosts scene now is job place before after request asked amount 
           (on_asked scene.request request (λ request. Shrinks ghosts scene request job amount new) req shrinks);
     }
 
-pub shrink_keeps : {M L : Type 0} (ghosts : Ghosts M L) (scene now : Scene M) → scene ≡ now → (job place : ℕ) (before after : M) (asked : Asked) (amount : ℕ) (books : Books) → IsWorld ghosts scene → IsTrue (is_lawful ghosts now (Shrink job)) → Seated ghosts scene.members job place before → books ≡ after_shrink scene.books (ghosts.job_is before) amount → Stands books asked → ghosts.job_is after ≡ ghosts.job_is before → IsTied books.live (ghosts.job_is after) (ghosts.capacity_is after) → IsBooks books → IsWorld ghosts (record { books = books; members = set scene.members place after; request = Some asked })
-shrink_keeps {M} ghosts scene now is job place before after asked amount books w lawful s books_are stands same tied rule =
+pub shrink_keeps : {M L : Type 0} (ghosts : Ghosts M L) (scene now : Scene M) → scene ≡ now → (job place : ℕ) (before after : M) (asked : Asked) (amount : ℕ) (books : Books) → IsWorld ghosts scene → IsTrue (is_lawful ghosts now (Shrink job)) → Seated ghosts scene.members job place before → books ≡ after_shrink scene.books (ghosts.job_is before) amount → Stands books asked → ghosts.job_is after ≡ ghosts.job_is before → IsTied books.live (ghosts.job_is after) (ghosts.capacity_is after) → Fits ghosts after → IsBooks books → IsWorld ghosts (record { books = books; members = set scene.members place after; request = Some asked })
+shrink_keeps {M} ghosts scene now is job place before after asked amount books w lawful s books_are stands same tied fits rule =
     let its : ghosts.job_is before ≡ job = seated_job ghosts scene.members job place before s in
     let live = lawful_live ghosts scene job (subst (λ (n : Scene M). is_lawful ghosts n (Shrink job) ≡ true) (sym is) lawful) in
     let are : books ≡ after_shrink scene.books job amount = books_are ∙ ap (λ n. after_shrink scene.books n amount) its in
     let rewrites = rewrites_taken scene.books job amount (shrink_entry job amount) w.books_hold (subst IsBooks are rule) live in
-    world_changed ghosts scene job place before after books (Some asked) w s (rw are rewrites) rule same
+    world_changed ghosts scene job place before after books (Some asked) w s (rw are rewrites) rule same fits
     (row_now books job (ghosts.job_is after) (ghosts.capacity_is after) (same ∙ its) tied) stands

@@ -5,14 +5,14 @@ use Rattle.vx_arb.specs.declared.members.Move.{Move}
 use Rattle.std.specs.Option.{option_map_or}
 use Rattle.vx_world.specs.declared.events.Event.TheVariants.{Batch, Want}
 use Rattle.vx_world.specs.declared.events.Reply.TheVariants.{Stepped, Wanted}
-use Rattle.vx_world.specs.Scenes.{Scene, IsWorld, member_of}
+use Rattle.vx_world.specs.Scenes.{Scene, IsWorld, Fits, member_of}
 use Rattle.vx_world.specs.Steps.{Step, Turns, is_lawful}
 use Rattle.vx_world.proofs.Changes.{Seated, seated_found, seated_row, seated_turns, rewrites_same, world_changed}
 
 -- where a member changes with the same job and capacity, a world keeps its rule
-pub step_keeps : {M L : Type 0} (ghosts : Ghosts M L) (scene : Scene M) (job place : ℕ) (before after : M) → IsWorld ghosts scene → Seated ghosts scene.members job place before → ghosts.job_is after ≡ ghosts.job_is before → ghosts.capacity_is after ≡ ghosts.capacity_is before → IsWorld ghosts (record { books = scene.books; members = set scene.members place after; request = scene.request })
-step_keeps ghosts scene job place before after w s same capacity =
-    world_changed ghosts scene job place before after scene.books scene.request w s (rewrites_same scene.books scene.books job refl refl refl) w.books_hold same
+pub step_keeps : {M L : Type 0} (ghosts : Ghosts M L) (scene : Scene M) (job place : ℕ) (before after : M) → IsWorld ghosts scene → Seated ghosts scene.members job place before → ghosts.job_is after ≡ ghosts.job_is before → ghosts.capacity_is after ≡ ghosts.capacity_is before → Fits ghosts after → IsWorld ghosts (record { books = scene.books; members = set scene.members place after; request = scene.request })
+step_keeps ghosts scene job place before after w s same capacity fits =
+    world_changed ghosts scene job place before after scene.books scene.request w s (rewrites_same scene.books scene.books job refl refl refl) w.books_hold same fits
     (seated_row ghosts scene job place before w s ∙ sym capacity) w.stands
 
 pub batch_made : {M L : Type 0} (ghosts : Ghosts M L) (scene now : Scene M) → scene ≡ now → (job hint place : ℕ) (before after : M) (move : Move) → IsTrue (is_lawful ghosts now (Batch job hint)) → Seated ghosts scene.members job place before → ghosts.steps before hint move after → Step ghosts now (Batch job hint) (Stepped move) (record { books = scene.books; members = set scene.members place after; request = scene.request })

@@ -1,12 +1,12 @@
 -- A world keeps its rule where one member changes with its row.
-use Rattle.std.proofs.Common.{◌≡◌, ◌≢◌, ℕ, suc, ◌+◌, ◌<◌, Bool, true, false, not, cond, eqb, Option, Some, None, MatchOption, List, [], ◌∷◌, length, get_or, set, refl, sym, ◌∙◌, ap, subst, arith}
+use Rattle.std.proofs.Common.{◌≡◌, ◌≢◌, ℕ, suc, ◌+◌, ◌<◌, Bool, true, false, not, cond, eqb, Option, Some, None, MatchOption, List, [], ◌∷◌, All, length, get_or, set, refl, sym, ◌∙◌, ap, subst, arith}
 use Rattle.std.specs.List.{position_or_len, sum_by, count_by}
 use Rattle.std.proofs.lemmas.Bool.Decides.{nat_tests}
 use Rattle.std.proofs.lemmas.List.Sums.{sum_by-cons}
 use Rattle.vx_arb.specs.declared.members.Member.{Ghosts}
 use Rattle.vx_arb.specs.Books.{IsBooks, Stands}
 use Rattle.vx_arb.specs.Rows.{is_live, capacity_at}
-use Rattle.vx_world.specs.Scenes.{Scene, IsWorld, member_of, with_member}
+use Rattle.vx_world.specs.Scenes.{Scene, IsWorld, Fits, member_of, with_member}
 
 -- where the first member of a job stands
 abbrev pub seat : {M L : Type 0} → Ghosts M L → List M → ℕ → ℕ
@@ -79,6 +79,7 @@ pub record Agrees {M L : Type 0} (ghosts : Ghosts M L) (old new : Scene M) (job 
   pub found : member_of ghosts old.members job ≡ Some before
   pub same_job : ghosts.job_is after ≡ ghosts.job_is before
   pub members_are : new.members ≡ with_member ghosts old.members job after
+  pub within : All (Fits ghosts) new.members
   pub books_hold : IsBooks new.books
   pub total : new.books.total ≡ old.books.total
   pub moved : new.books.free + ghosts.capacity_is after ≡ old.books.free + ghosts.capacity_is before
@@ -105,6 +106,7 @@ world_turned {M} ghosts old new job before after w a =
     record {
       books_hold = a.books_hold;
       adds_up = rw members (omega (arith, sum_turned ghosts old.members job before after a.found, w.adds_up, a.moved, a.total));
+      within = a.within;
       tied = λ other. rw members (by_job (λ n. MatchOption (member_of ghosts (with_member ghosts old.members job after) n) (is_live new.books.live n ≡ false) (λ member. capacity_at new.books.live n ≡ ghosts.capacity_is member)) job other
           (subst (λ (o : Option M). MatchOption o (is_live new.books.live job ≡ false) (λ member. capacity_at new.books.live job ≡ ghosts.capacity_is member)) (sym (found_new ghosts old.members job before after a.found is)) a.row)
           (λ ne. subst (λ (o : Option M). MatchOption o (is_live new.books.live other ≡ false) (λ member. capacity_at new.books.live other ≡ ghosts.capacity_is member)) (sym (found_others ghosts old.members job other after is ne))

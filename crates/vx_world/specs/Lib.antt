@@ -1,4 +1,5 @@
 pub mod Plain
 pub mod PlainRule
 pub mod Scenes
+pub mod Looks
 pub mod Steps

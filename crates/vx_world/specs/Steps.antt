@@ -3,6 +3,7 @@ use Rattle.std.specs.Prelude.{◌≡◌, ℕ, ◌+◌, ◌==◌, ◌&&◌, Bool,
 use Rattle.std.specs.Option.{option_map_or}
 use Rattle.vx_arb.specs.declared.members.Member.{Ghosts}
 use Rattle.vx_arb.specs.declared.members.Lack.{Lack}
+use Rattle.vx_arb.specs.declared.entries.Look.{Look as Seen}
 use Rattle.vx_arb.specs.Books.{Books, Asked, IsReclaimed, after_admit, after_begin, request_for, after_shrink, after_reclaim, after_move, after_look, after_grant, after_abort, after_retire, share_of, moved_of, wanted_of, is_met, is_unmet, note_for}
 use Rattle.vx_arb.specs.Rows.{is_live}
 use Rattle.vx_world.specs.declared.events.Event.{Event}
@@ -10,6 +11,7 @@ use Rattle.vx_world.specs.declared.events.Event.TheVariants.{Admit, Batch, Begin
 use Rattle.vx_world.specs.declared.events.Reply.{Reply}
 use Rattle.vx_world.specs.declared.events.Reply.TheVariants.{Admitted, Stepped, Begun, NotLacking, Freed, Looked, Granted, Aborted, Dropped, Wanted, Retired}
 use Rattle.vx_world.specs.Scenes.{Scene, member_of, with_member}
+use Rattle.vx_world.specs.Looks.{looks_after, looks_of, Holds, Tells}
 
 -- a test of the member of a job, which fails where there is none
 abbrev pub on_member : {M L : Type 0} → Ghosts M L → Scene M → ℕ → (M → Bool) → Bool
@@ -145,8 +147,19 @@ Run ghosts old (event ∷ events) [] new = ⊥
 Run {M} ghosts old (event ∷ events) (reply ∷ replies) new =
     (mid : Scene M) × (Step ghosts old event reply mid × Run ghosts mid events replies new)
 
+-- A run in which each abort tells just the looks that were made since its request began, and each request
+-- that stands holds them. `looks` are those that were held before the run.
+abbrev pub Watched : {M L : Type 0} → Ghosts M L → List Seen → Scene M → List Event → List Reply → Scene M → Type 0
+Watched ghosts looks old [] [] new = (new ≡ old) × Holds looks old.request
+Watched ghosts looks old [] (reply ∷ replies) new = ⊥
+Watched ghosts looks old (event ∷ events) [] new = ⊥
+Watched {M} ghosts looks old (event ∷ events) (reply ∷ replies) new =
+    (mid : Scene M) × (Step ghosts old event reply mid × Holds looks old.request × Tells looks old reply mid
+    × Watched ghosts (looks_after ghosts old looks event reply) mid events replies new)
+
 -- what a run of some of the events left: as many were made as replies were added, in order
 pub record Ran {M L : Type 0} (ghosts : Ghosts M L) (old : Scene M) (events : List Event) (before after : List Reply) (new : Scene M) : Type 0 where
   pub gained : List Reply
   pub added : after ≡ before ++ gained
   pub run : Run ghosts old (take (length gained) events) gained new
+  pub looks : Watched ghosts (looks_of old.request) old (take (length gained) events) gained new

@@ -12,6 +12,8 @@ mod events;
 mod plain;
 mod running;
 mod seats;
+#[cfg(test)]
+mod tests;
 
 pub use events::{ApplyError, Event, Reply};
 pub use plain::PlainMember;

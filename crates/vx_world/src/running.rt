@@ -1,10 +1,10 @@
 //! A world: an arbitrator, its members, and at most one request.
-ghost use Rattle.std.specs.Prelude.{◌≡◌, ◌≤◌, ◌↔◌, ◌==◌, ℕ, None, [], false, not, ◌&&◌, ◌+◌, length, vec_len, IsTrue, IfOk, IfErr, OnOk, OnErr, sum_by, count_by};
+ghost use Rattle.std.specs.Prelude.{◌≡◌, ◌≤◌, ◌↔◌, ◌==◌, ℕ, None, [], false, not, ◌&&◌, ◌+◌, ◌-◌, length, vec_len, slice_get, IsSomeAnd, IsTrue, IfOk, IfErr, OnOk, OnErr, sum_by, count_by};
 ghost use Rattle.vx_world.specs.Scenes.{IsWorld};
 ghost use Rattle.vx_world.specs.Steps.{Step, Ran, is_lawful};
 
 use crate::asking::{can_abort, can_grant, can_reclaim, can_shrink, is_asking};
-use crate::seats::{is_going, is_leaving, is_running, is_there, is_waiting, seat_in};
+use crate::seats::{all_fit, is_going, is_leaving, is_running, is_there, is_waiting, seat_in};
 use crate::{ApplyError, Event, Reply};
 use std::marker::Model;
 use vx_account::Names;
@@ -49,6 +49,7 @@ impl<L: Names, M: Member<L> + Drop> World<L, M> {
         ensures rule { IsWorld M.Member result }
     {
         let _total = arb.total();
+        all_fit(&members);
         World {
             arb,
             members,
@@ -126,6 +127,11 @@ impl<L: Names, M: Member<L> + Drop> World<L, M> {
     ) -> Result<(), ApplyError>
         ensures run { Ran M.Member self.old events.now replies.old.items replies.new.items self.new }
         ensures all { OnOk result (vec_len replies.new ≡ vec_len replies.old + length events.now) }
+
+        // Refused comes only at an event that isn't lawful in the world that those before it left.
+        ensures refused { result ≡ Err ApplyError.Refused → IsSomeAnd
+            (slice_get events.now (vec_len replies.new - vec_len replies.old))
+            (λ event. is_lawful M.Member self.new event ≡ false) }
         ensures rule { IsWorld M.Member self.new }
     {
         let _arb = self.arb();

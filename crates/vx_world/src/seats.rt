@@ -1,11 +1,20 @@
 //! Where the member of a job stands, and what is said of a job by its row and its member.
-ghost use Rattle.std.specs.Prelude.{◌≡◌, ◌==◌, ◌&&◌, ◌<◌, true, false, not, Some, IsSome, length, position};
+ghost use Rattle.std.specs.Prelude.{◌≡◌, ◌==◌, ◌&&◌, ◌<◌, true, false, not, Some, IsSome, All, length, position};
 ghost use Rattle.std.specs.Option.{option_map_or};
 ghost use Rattle.vx_arb.specs.Rows.{is_live, max_in};
-ghost use Rattle.vx_world.specs.Scenes.{member_of};
+ghost use Rattle.vx_world.specs.Scenes.{Fits, member_of};
 
 use vx_account::Names;
 use vx_arb::{Live, Member};
+
+// Asks each member for its capacity: the call says that no more is reserved.
+pub fn all_fit<L: Names, M: Member<L> + Drop>(members: &[M])
+    ensures { All (Fits M.Member) members.now }
+{
+    for member in members {
+        member.capacity();
+    }
+}
 
 // Where the member of a job stands.
 pub fn seat_of<L: Names, M: Member<L> + Drop>(members: &[M], job: u32) -> Option<usize>

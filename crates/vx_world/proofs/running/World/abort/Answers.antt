@@ -22,7 +22,7 @@ pub invariant_of-self : goal.invariant_of-self
 invariant_of-self g c =
     rw c.take.ensures.after (abort_keeps g.M.Member _ c.args.self.now c.self.view_is c.args.job c.seat_in-place.result c.index_mut.result.now c.abort.new.victim c.unwrap-request.result c.abort.new.self c.self.invariant c.requires (sym c.take.ensures.value ∙ c.unwrap-request.ensures)
     (seated g.M.Member c.self.inside.members.items c.deref.result.now c.args.job c.seat_in-place.result c.index_mut.result.now c.deref.ensures.value c.seat_in-place.ensures.place c.index_mut.ensures.value)
-    c.abort.ensures.books c.abort.ensures.job c.abort.ensures.tied c.abort.ensures.rule)
+    c.abort.ensures.books c.abort.ensures.job c.abort.ensures.tied c.abort.ensures.within c.abort.ensures.rule)
 
 pub returns-clause-step : goal.returns-clause-step
 returns-clause-step g c =

@@ -6,7 +6,7 @@ pub invariant_of-self : goal.invariant_of-self
 invariant_of-self g c =
     step_keeps g.M.Member _ c.args.job c.seat_in-place.result c.index_mut.result.now c.step.new.self c.self.invariant
     (seated g.M.Member c.self.inside.members.items c.deref.result.now c.args.job c.seat_in-place.result c.index_mut.result.now c.deref.ensures.value c.seat_in-place.ensures.place c.index_mut.ensures.value)
-    c.step.ensures.job c.step.ensures.capacity
+    c.step.ensures.job c.step.ensures.capacity c.step.ensures.rule
 
 pub returns-clause-step : goal.returns-clause-step
 returns-clause-step g c =

@@ -17,7 +17,8 @@ pub invariant_of-self : goal.invariant_of-self
 invariant_of-self g c =
     rw c.take.ensures.after (grant_keeps g.M.Member _ c.args.self.now c.self.view_is c.unwrap-request.result c.seat_in-place.result c.index_mut.result.now c.grant-granted.new.member c.grant-granted.new.self c.self.invariant c.requires (sym c.take.ensures.value ∙ c.unwrap-request.ensures)
     (subst (λ n. Seated g.M.Member c.self.inside.members.items n c.seat_in-place.result c.index_mut.result.now) c.job.ensures (seated g.M.Member c.self.inside.members.items c.deref.result.now c.job.result c.seat_in-place.result c.index_mut.result.now c.deref.ensures.value c.seat_in-place.ensures.place c.index_mut.ensures.value))
-    (made_ok c.grant-granted.result _ (sym c.is_ok.ensures.value ∙ c.if-prove.false) c.grant-granted.ensures.books) c.grant-granted.ensures.job c.grant-granted.ensures.tied c.grant-granted.ensures.rule)
+    (made_ok c.grant-granted.result _ (sym c.is_ok.ensures.value ∙ c.if-prove.false) c.grant-granted.ensures.books) c.grant-granted.ensures.job c.grant-granted.ensures.tied
+    (made_ok c.grant-granted.result _ (sym c.is_ok.ensures.value ∙ c.if-prove.false) c.grant-granted.ensures.within) c.grant-granted.ensures.rule)
 
 pub returns-clause-step : goal.returns-clause-step
 returns-clause-step g c =

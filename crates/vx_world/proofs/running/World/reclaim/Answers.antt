@@ -12,7 +12,7 @@ pub invariant_of-self : goal.invariant_of-self
 invariant_of-self g c =
     reclaim_keeps g.M.Member _ c.args.self.now c.self.view_is c.args.job c.seat_in-place.result c.index_mut.result.now c.reclaim-freed.new.member c.reclaim-freed.new.request c.reclaim-freed.result _ c.reclaim-freed.new.self c.self.invariant c.requires
     (seated g.M.Member c.self.inside.members.items c.deref.result.now c.args.job c.seat_in-place.result c.index_mut.result.now c.deref.ensures.value c.seat_in-place.ensures.place c.index_mut.ensures.value)
-    c.reclaim-freed.ensures.books c.reclaim-freed.ensures.stands c.reclaim-freed.ensures.job c.reclaim-freed.ensures.tied c.reclaim-freed.ensures.rule
+    c.reclaim-freed.ensures.books c.reclaim-freed.ensures.stands c.reclaim-freed.ensures.job c.reclaim-freed.ensures.tied c.reclaim-freed.ensures.within c.reclaim-freed.ensures.rule
 
 pub returns-clause-step : goal.returns-clause-step
 returns-clause-step g c =

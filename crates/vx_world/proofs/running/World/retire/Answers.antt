@@ -19,7 +19,7 @@ pub invariant_of-self : goal.invariant_of-self
 invariant_of-self g c =
     retire_keeps g.M.Member _ c.args.self.now c.self.view_is c.args.job c.seat_in-place.result c.capacity.result c.index_mut-member.result.now c.lower-share.new.self c.retire.new.self c.self.invariant c.requires
     (seated g.M.Member c.self.inside.members.items c.deref.result.now c.args.job c.seat_in-place.result c.index_mut-member.result.now c.deref.ensures.value c.seat_in-place.ensures.place c.index_mut-member.ensures.value)
-    c.capacity.ensures.value c.lower-share.ensures.job c.lower-share.ensures.capacity c.retire.ensures.books c.retire.ensures.stands c.retire.ensures.rule
+    c.capacity.ensures.value c.lower-share.ensures.job c.lower-share.ensures.capacity c.lower-share.ensures.rule c.retire.ensures.books c.retire.ensures.stands c.retire.ensures.rule
 
 pub returns-clause-step : goal.returns-clause-step
 returns-clause-step g c =

@@ -17,7 +17,7 @@ pub invariant_of-self : goal.invariant_of-self
 invariant_of-self g c =
     shrink_keeps g.M.Member _ c.args.self.now c.self.view_is c.args.job c.seat_in-place.result c.index_mut.result.now c.shrink-freed.new.member c.shrink-freed.new.request c.shrink-freed.result c.shrink-freed.new.self c.self.invariant c.requires
     (seated g.M.Member c.self.inside.members.items c.deref.result.now c.args.job c.seat_in-place.result c.index_mut.result.now c.deref.ensures.value c.seat_in-place.ensures.place c.index_mut.ensures.value)
-    c.shrink-freed.ensures.books c.shrink-freed.ensures.stands c.shrink-freed.ensures.job c.shrink-freed.ensures.tied c.shrink-freed.ensures.rule
+    c.shrink-freed.ensures.books c.shrink-freed.ensures.stands c.shrink-freed.ensures.job c.shrink-freed.ensures.tied c.shrink-freed.ensures.within c.shrink-freed.ensures.rule
 
 pub returns-clause-step : goal.returns-clause-step
 returns-clause-step g c =

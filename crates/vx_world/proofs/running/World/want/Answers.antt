@@ -11,7 +11,7 @@ pub invariant_of-self : goal.invariant_of-self
 invariant_of-self g c =
     step_keeps g.M.Member _ c.args.job c.seat_in-place.result c.index_mut.result.now c.want.new.self c.self.invariant
     (seated g.M.Member c.self.inside.members.items c.deref.result.now c.args.job c.seat_in-place.result c.index_mut.result.now c.deref.ensures.value c.seat_in-place.ensures.place c.index_mut.ensures.value)
-    c.want.ensures.job c.want.ensures.capacity
+    c.want.ensures.job c.want.ensures.capacity c.want.ensures.rule
 
 pub returns-clause-step : goal.returns-clause-step
 returns-clause-step g c =

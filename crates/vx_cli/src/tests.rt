@@ -29,7 +29,8 @@ fn host_of(alloc: Global, bytes: Vec<u8>, troubles: &Troubles) -> Result<MemoryH
     let out = MemorySink::new(alloc, troubles.most.max(1), troubles.out.to_vec(alloc)?);
     let err = MemorySink::new(alloc, u32::MAX, troubles.err.to_vec(alloc)?);
     let reads = troubles.read.to_vec(alloc)?;
-    Ok(MemoryHost::new(alloc, files, reads, out, err))
+    let stores = Vec::new(alloc);
+    Ok(MemoryHost::new(alloc, files, reads, out, err, stores))
 }
 
 fn words_of(alloc: Global, words: &[&str]) -> Result<Vec<String>, AllocError> {

@@ -4,4 +4,5 @@ pub mod Memory
 pub mod Reading
 pub mod Real
 pub mod Sink
+pub mod Stores
 pub mod Views

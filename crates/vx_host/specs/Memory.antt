@@ -1,24 +1,17 @@
 -- A sink and a host in memory, as contracts see them. Their calls are numbered from 0, and those fail whose
 -- numbers they were made with. A count at the end of its type stays there.
-use Rattle.std.specs.Prelude.{ℕ, ◌+◌, ◌-◌, ◌^◌, ◌==◌, ◌||◌, min, Bool, List, [], ◌++◌, take, find, Option, Some, option_map, is_none, Result, Ok, Err}
-use Rattle.std.specs.List.{list_any}
+use Rattle.std.specs.Prelude.{ℕ, ◌==◌, ◌||◌, Bool, true, false, List, [], ◌∷◌, ◌++◌, map, filter, take, find, Option, Some, option_map, is_none, Result, Ok, Err}
 use Rattle.std.specs.Str.{bytes_eq}
 use Rattle.vx_base.specs.Calls.{none_to_fail}
+pub use Rattle.vx_store.specs.Script.{counted, is_to_fail}
 use Rattle.vx_host.specs.Views.{SinkView, FilesView}
 use Rattle.vx_host.specs.declared.error.SinkError.{SinkError}
 use Rattle.vx_host.specs.declared.error.SinkError.TheVariants as sink_error
 use Rattle.vx_host.specs.declared.error.ReadError.{ReadError}
 use Rattle.vx_host.specs.declared.error.ReadError.TheVariants as read_error
 use Rattle.vx_host.specs.declared.host.To.{To}
+use Rattle.vx_host.specs.declared.memory_host.StoreFail.{StoreFail}
 use Rattle.vx_host.specs.declared.host.To.TheVariants.{Output, Errors}
-
--- one more, up to the last u64
-abbrev pub counted : ℕ → ℕ
-counted n = min (n + 1) (2 ^ 64 - 1)
-
--- the call of this number is one of those that fail
-abbrev pub is_to_fail : List ℕ → ℕ → Bool
-is_to_fail fails call = list_any (λ k. k == call) fails
 
 -- A sink: the bytes that it has taken, the most that it takes in one call, the numbers of the calls that
 -- fail, how many calls were made, and how many of them failed.
@@ -44,7 +37,7 @@ abbrev pub sink_view : SinkMemory → SinkView
 sink_view s = record { taken = Some s.taken; faults = s.faults; unfailing = none_to_fail s.fails s.calls }
 
 -- A host: its files, each a name and its bytes, the numbers of the reads that fail, how many reads were
--- made, how many of them failed, and its two sinks.
+-- made, how many of them failed, its two sinks, and the jobs and numbers of the calls of stores that fail.
 pub record HostMemory : Type 0 where
   pub files : List (List ℕ × List ℕ)
   pub fails : List ℕ
@@ -52,10 +45,11 @@ pub record HostMemory : Type 0 where
   pub faults : ℕ
   pub out : SinkMemory
   pub err : SinkMemory
+  pub store_fails : List StoreFail
 
 -- a host that nobody has called yet
-abbrev pub new_host : List (List ℕ × List ℕ) → List ℕ → SinkMemory → SinkMemory → HostMemory
-new_host files fails out err = record { files = files; fails = fails; reads = 0; faults = 0; out = out; err = err }
+abbrev pub new_host : List (List ℕ × List ℕ) → List ℕ → SinkMemory → SinkMemory → List StoreFail → HostMemory
+new_host files fails out err store_fails = record { files = files; fails = fails; reads = 0; faults = 0; out = out; err = err; store_fails = store_fails }
 
 -- the bytes of the first file of that name
 abbrev pub bytes_of : List (List ℕ × List ℕ) → List ℕ → Option (List ℕ)
@@ -84,3 +78,15 @@ sink_at h Errors = h.err
 -- what a host tells of its sinks
 abbrev pub sink_view_at : HostMemory → To → SinkView
 sink_view_at h to = sink_view (sink_at h to)
+
+-- the calls of a job's store that fail
+abbrev pub fails_of : List StoreFail → ℕ → List ℕ
+fails_of fails job = map (λ fail. fail.call) (filter (λ fail. fail.job == job) fails)
+
+abbrev pub is_empty : List StoreFail → Bool
+is_empty [] = true
+is_empty (fail ∷ fails) = false
+
+-- no call of any store is to fail
+abbrev pub no_store_fails : HostMemory → Bool
+no_store_fails h = is_empty h.store_fails

@@ -13,7 +13,6 @@ mod memory_host;
 mod memory_sink;
 mod reading;
 mod real;
-mod script;
 mod sink;
 mod stream;
 
@@ -21,7 +20,7 @@ pub use error::{ReadError, SinkError};
 pub use gate::{FreeGate, Gate, GatePlace};
 pub use give::give_all;
 pub use host::{Host, To};
-pub use memory_host::{MemoryFile, MemoryHost};
+pub use memory_host::{MemoryFile, MemoryHost, StoreFail};
 pub use memory_sink::MemorySink;
 pub use real::RealHost;
 pub use sink::Sink;

@@ -3,17 +3,19 @@ ghost use Rattle.std.specs.Option.{option_copied};
 ghost use Rattle.vx_base.specs.Causes.{HasCause};
 ghost use Rattle.vx_host.specs.Files.{named};
 ghost use Rattle.vx_host.specs.Host.{Stands, IsReadErrorOf, KeepsFiles, WritesOnly};
-ghost use Rattle.vx_host.specs.Memory.{new_host, bytes_of, read_fails, after_read, after_write, is_to_fail, files_view, sink_at, sink_view_at};
+ghost use Rattle.vx_host.specs.Memory.{new_host, bytes_of, read_fails, after_read, after_write, is_to_fail, files_view, sink_at, sink_view_at, fails_of, no_store_fails};
+ghost use Rattle.vx_host.specs.Stores.{IsFreshStore, IsSafeStore};
+ghost use Rattle.vx_store.specs.Memory.{new_store, store_view};
 ghost use Rattle.vx_host.specs.Sink.{Takes, StaysUnfailing};
 ghost use Rattle.vx_host.specs.declared.host.To.{To as Place};
 
 use crate::error::{ReadError, SinkError};
 use crate::host::{Host, To};
 use crate::memory_sink::MemorySink;
-use crate::script::Script;
 use crate::sink::Sink;
-use std::alloc::Global;
+use std::alloc::{AllocError, Global};
 use std::marker::Model;
+use vx_store::{MemoryStore, Script};
 
 /// A file of a `MemoryHost`.
 #[derive(Debug, Drop)]
@@ -22,7 +24,15 @@ pub struct MemoryFile {
     pub bytes: Vec<u8>,
 }
 
-/// A host over files and sinks in memory, which fails at listed reads.
+/// A call of a job's store that fails.
+#[derive(Clone, Copy, Debug, PartialEq, Eq)]
+pub struct StoreFail {
+    pub job: u32,
+    /// The number of the call, from 0 over all calls of that store.
+    pub call: u64,
+}
+
+/// A host over files, sinks and stores in memory, which fails at listed reads.
 #[derive(Drop)]
 pub struct MemoryHost {
     alloc: Global,
@@ -30,6 +40,7 @@ pub struct MemoryHost {
     script: Script,
     out: MemorySink,
     err: MemorySink,
+    store_fails: Vec<StoreFail>,
 }
 
 impl Model for MemoryHost {
@@ -38,20 +49,21 @@ impl Model for MemoryHost {
 
     ghost Value = { HostMemory };
 
-    ghost view = { λ h. record { files = named h.files.items; fails = h.script.fails.items; reads = h.script.calls; faults = h.script.faults; out = h.out; err = h.err } };
+    ghost view = { λ h. record { files = named h.files.items; fails = h.script.fails.items; reads = h.script.calls; faults = h.script.faults; out = h.out; err = h.err; store_fails = h.store_fails.items } };
 }
 
 impl MemoryHost {
     /// A host over these files; of two files of one name the first counts. Reads are numbered from 0, and
-    /// those in `read_fails` fail.
+    /// those in `read_fails` fail. The store of a job fails at its calls in `store_fails`.
     pub fn new(
         alloc: Global,
         files: Vec<MemoryFile>,
         read_fails: Vec<u64>,
         out: MemorySink,
         err: MemorySink,
+        store_fails: Vec<StoreFail>,
     ) -> MemoryHost
-        ensures { result ≡ new_host (named files.items) read_fails.items out err }
+        ensures { result ≡ new_host (named files.items) read_fails.items out err store_fails.items }
     {
         MemoryHost {
             alloc,
@@ -59,6 +71,7 @@ impl MemoryHost {
             script: Script::new(read_fails),
             out,
             err,
+            store_fails,
         }
     }
 
@@ -78,6 +91,10 @@ impl Host for MemoryHost {
 
     ghost sink = { sink_view_at };
 
+    ghost stores_unfailing = { no_store_fails };
+
+    type Store = MemoryStore;
+
     fn read(&mut self, name: &str, limit: u64) -> Result<Vec<u8>, ReadError>
         ensures ok { IfOk result (λ bytes. Stands (files_view self.old) name.now bytes.items) }
         ensures within { IfOk result (λ bytes. length bytes.items ≤ limit) }
@@ -87,6 +104,7 @@ impl Host for MemoryHost {
         ensures sinks { (to : Place) → sink_view_at self.new to ≡ sink_view_at self.old to }
 
         // It fails exactly at the listed reads, and at a name under which nothing stands.
+        ensures stores { no_store_fails self.old ≡ true → no_store_fails self.new ≡ true }
         ensures failed { IsErrOf result ReadError.Failed ↔ (read_fails self.old name.now ≡ true) }
         ensures after { self.new ≡ after_read self.old result }
     {
@@ -107,12 +125,29 @@ impl Host for MemoryHost {
         self.script.faults
     }
 
+    fn store(&mut self, job: u32) -> Result<MemoryStore, AllocError>
+        ensures fresh { IfOk result (λ store. IsFreshStore (store_view store)) }
+        ensures unfailing { no_store_fails self.old ≡ true → IfOk result (λ store. IsSafeStore (store_view store)) }
+        ensures files { files_view self.new ≡ files_view self.old }
+        ensures sinks { (to : Place) → sink_view_at self.new to ≡ sink_view_at self.old to }
+        ensures stores { no_store_fails self.old ≡ true → no_store_fails self.new ≡ true }
+
+        // It fails exactly at the job's listed calls.
+        ensures store { IfOk result (λ store. store ≡ new_store (fails_of self.old.store_fails job)) }
+        ensures after { self.new ≡ self.old }
+    {
+        let fails = fails_of(self.alloc, &self.store_fails, job)?;
+        Ok(MemoryStore::new(self.alloc, fails))
+    }
+
     fn write(&mut self, to: To, piece: &[u8]) -> Result<usize, SinkError>
         ensures ok { IfOk result (Takes (sink_view_at self.old to) (sink_view_at self.new to) piece.now) }
         ensures err { OnErr result ((sink_view_at self.new to).taken ≡ (sink_view_at self.old to).taken) }
         ensures cause { HasCause (λ e. e ≡ SinkError.Failed) (sink_view_at self.old to).faults (sink_view_at self.new to).faults result }
         ensures unfailing { StaysUnfailing (sink_view_at self.old to) (sink_view_at self.new to) result }
         ensures others { WritesOnly files_view sink_view_at to self.old self.new }
+
+        ensures stores { no_store_fails self.old ≡ true → no_store_fails self.new ≡ true }
 
         // It fails exactly at the sink's listed calls, and else the sink takes as much as it may.
         ensures failed { IsErrOf result SinkError.Failed ↔ (is_to_fail (sink_at self.old to).fails (sink_at self.old to).calls ≡ true) }
@@ -143,4 +178,12 @@ fn find_bytes<'a>(files: &'a [MemoryFile], name: &str) -> Option<&'a [u8]>
         }
     }
     None
+}
+
+// The calls of a job's store that fail.
+fn fails_of(alloc: Global, fails: &[StoreFail], job: u32) -> Result<Vec<u64>, AllocError>
+    ensures { IfOk result (λ calls. calls.items ≡ fails_of fails.now job) }
+{
+    let of_job = fails.iter().filter(|fail| fail.job == job);
+    of_job.map(|fail| fail.call).collect(alloc)
 }

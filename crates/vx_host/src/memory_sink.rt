@@ -4,10 +4,10 @@ ghost use Rattle.vx_host.specs.Memory.{sink_view, new_sink, after_write, is_to_f
 ghost use Rattle.vx_host.specs.Sink.{Takes, StaysUnfailing};
 
 use crate::error::SinkError;
-use crate::script::Script;
 use crate::sink::Sink;
 use std::alloc::Global;
 use std::marker::Model;
+use vx_store::Script;
 
 /// A sink that keeps the bytes that it takes, and fails at listed calls.
 #[derive(Drop)]

@@ -1,10 +1,12 @@
-ghost use Rattle.std.specs.Prelude.{◌≡◌, ◌≤◌, length, IfOk, IfErr, OnErr};
+ghost use Rattle.std.specs.Prelude.{◌≡◌, ◌≤◌, length, true, false, IfOk, IfErr, OnErr};
 ghost use Rattle.std.specs.Io.KnownBytes.{WriteAppends};
 ghost use Rattle.vx_base.specs.Causes.{HasCause};
 ghost use Rattle.vx_host.specs.Host.{other, Stands, IsReadErrorOf, KeepsFiles, WritesOnly};
 ghost use Rattle.vx_host.specs.Reading.{faults_after_read, faults_after_write};
 ghost use Rattle.vx_host.specs.Real.{real_files, real_sink, written, IsFresh};
 ghost use Rattle.vx_host.specs.Sink.{Takes, StaysUnfailing};
+ghost use Rattle.vx_host.specs.Stores.{IsFreshStore, IsSafeStore};
+ghost use Rattle.vx_store.specs.Folder.{folder_view};
 ghost use Rattle.vx_host.specs.declared.host.To.{To as Place};
 
 use crate::error::{ReadError, SinkError};
@@ -12,9 +14,10 @@ use crate::host::{Host, To};
 use crate::reading::read_file;
 use crate::sink::Sink;
 use crate::stream::Stream;
-use std::alloc::Global;
+use std::alloc::{AllocError, Global};
 use std::io;
 use std::rt::Files;
+use vx_store::FolderStore;
 
 /// A host over real files and two writers, as standard output and standard error.
 ///
@@ -59,10 +62,14 @@ impl<F: Files + Drop, O: io::Write + Drop, E: io::Write + Drop> RealHost<F, O, E
     }
 }
 
-impl<F: Files, O: io::Write, E: io::Write> Host for RealHost<F, O, E> {
+impl<F: Files + Copy + Send + Drop, O: io::Write, E: io::Write> Host for RealHost<F, O, E> {
     ghost files = { real_files };
 
     ghost sink = { real_sink };
+
+    ghost stores_unfailing = { λ _. false };
+
+    type Store = FolderStore<F>;
 
     fn read(&mut self, name: &str, limit: u64) -> Result<Vec<u8>, ReadError>
         ensures ok { IfOk result (λ bytes. Stands (real_files self.old) name.now bytes.items) }
@@ -85,6 +92,20 @@ impl<F: Files, O: io::Write, E: io::Write> Host for RealHost<F, O, E> {
                 Err(ReadError::Failed)
             }
         }
+    }
+
+    fn store(&mut self, job: u32) -> Result<FolderStore<F>, AllocError>
+        ensures fresh { IfOk result (λ store. IsFreshStore (folder_view store.faults)) }
+        ensures unfailing { false ≡ true → IfOk result (λ store. IsSafeStore (folder_view store.faults)) }
+        ensures files { real_files self.new ≡ real_files self.old }
+        ensures sinks { (to : Place) → real_sink self.new to ≡ real_sink self.old to }
+        ensures stores { false ≡ true → false ≡ true }
+
+        // It is that job's, and nothing of the host changes.
+        ensures job { IfOk result (λ store. store.job ≡ job) }
+        ensures after { self.new ≡ self.old }
+    {
+        Ok(FolderStore::new(self.alloc, self.files, job))
     }
 
     fn read_faults(&self) -> u64 {

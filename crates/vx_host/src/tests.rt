@@ -1,18 +1,27 @@
 use crate::reading::read_within;
 use crate::{
-    Host, MemoryFile, MemoryHost, MemorySink, ReadError, RealHost, SinkError, To, give_all,
+    Host, MemoryFile, MemoryHost, MemorySink, ReadError, RealHost, SinkError, StoreFail, To,
+    give_all,
 };
 use std::alloc::{AllocError, Global};
 use std::io::ErrorKind;
 use std::test::Fail;
 use std::{fs, io};
+use vx_store::Store;
 
 #[test]
 fn a_piece_is_given_in_parts_until_a_write_fails(rt: HostRuntime) -> Result<(), Fail> {
     let alloc = rt.alloc();
     let out = MemorySink::new(alloc, 8, vec![in alloc; 1]?);
     let err = MemorySink::new(alloc, 1, Vec::new(alloc));
-    let mut host = MemoryHost::new(alloc, Vec::new(alloc), Vec::new(alloc), out, err);
+    let mut host = MemoryHost::new(
+        alloc,
+        Vec::new(alloc),
+        Vec::new(alloc),
+        out,
+        err,
+        Vec::new(alloc),
+    );
     let given = give_all(&mut host, To::Output, b"twelve bytes");
     assert_eq!(rt; given, Err(SinkError::Failed));
     assert_eq!(rt; host.taken(To::Output), b"twelve b".as_slice());
@@ -31,7 +40,14 @@ fn a_read_fails_where_it_is_listed_and_where_nothing_stands(rt: HostRuntime) -> 
     let mut files = Vec::new(alloc);
     files.push(file(alloc, "plan", b"first")?)?;
     files.push(file(alloc, "plan", b"second")?)?;
-    let mut host = MemoryHost::new(alloc, files, vec![in alloc; 1]?, sink(alloc), sink(alloc));
+    let mut host = MemoryHost::new(
+        alloc,
+        files,
+        vec![in alloc; 1]?,
+        sink(alloc),
+        sink(alloc),
+        Vec::new(alloc),
+    );
     assert_eq!(rt; host.read("plan", 5)?.as_slice(), b"first".as_slice());
     assert!(rt; matches!(host.read("plan", 5), Err(ReadError::Failed)));
     assert_eq!(rt; host.read_faults(), 1);
@@ -40,6 +56,33 @@ fn a_read_fails_where_it_is_listed_and_where_nothing_stands(rt: HostRuntime) -> 
     assert!(rt; matches!(host.read("absent", 4), Err(ReadError::Failed)));
     assert_eq!(rt; host.read_faults(), 2);
     assert_eq!(rt; host.read("plan", 6)?.as_slice(), b"first".as_slice());
+    Ok(())
+}
+
+/// Whether the store of this job makes its first file.
+fn makes_a_file(host: &mut MemoryHost, job: u32) -> Result<bool, AllocError> {
+    let mut store = host.store(job)?;
+    Ok(store.create().is_ok())
+}
+
+#[test]
+fn the_store_of_a_job_fails_where_it_is_listed(rt: HostRuntime) -> Result<(), Fail> {
+    let alloc = rt.alloc();
+    let fails = vec![in alloc;
+        StoreFail { job: 1, call: 0 },
+        StoreFail { job: 2, call: 1 },
+    ]?;
+    let mut host = MemoryHost::new(
+        alloc,
+        Vec::new(alloc),
+        Vec::new(alloc),
+        sink(alloc),
+        sink(alloc),
+        fails,
+    );
+    for (job, makes) in [(0, true), (1, false), (2, true)] {
+        assert_eq!(rt; makes_a_file(&mut host, job)?, makes, "of job {job}");
+    }
     Ok(())
 }
 
@@ -64,6 +107,13 @@ fn a_real_host_reads_files_and_writes_to_its_writers(rt: HostRuntime) -> Result<
     fs::remove_dir_all(&rt, FOLDER)?;
     assert_eq!(rt; give_all(&mut host, To::Output, b"rows"), Ok(()));
     assert_eq!(rt; give_all(&mut host, To::Errors, b"none"), Ok(()));
+    let mut store = host.store(3)?;
+    assert!(rt; store.create().is_ok());
+    assert_eq!(rt;
+        fs::read(&rt, "vxspill/3-0.bin")?.as_slice(),
+        b"".as_slice()
+    );
+    fs::remove_dir_all(&rt, "vxspill")?;
     let (out, err) = host.into_writers();
     assert_eq!(rt; out.as_slice(), b"rows".as_slice());
     assert_eq!(rt; err.as_slice(), b"none".as_slice());

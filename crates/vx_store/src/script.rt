@@ -1,17 +1,19 @@
 ghost use Rattle.std.specs.Prelude.{◌≡◌, ◌≤◌, true, false, cond};
 ghost use Rattle.vx_base.specs.Calls.{none_to_fail};
-ghost use Rattle.vx_host.specs.Memory.{counted, is_to_fail};
+ghost use Rattle.vx_store.specs.Script.{counted, is_to_fail};
 
 /// The calls of an object in memory: the numbers of those that fail, how many were made, and how many failed.
+///
+/// Calls are numbered from 0. Both counts stay at the last `u64`.
 #[derive(Drop)]
-pub(crate) struct Script {
-    pub(crate) fails: Vec<u64>,
-    pub(crate) calls: u64,
-    pub(crate) faults: u64,
+pub struct Script {
+    pub fails: Vec<u64>,
+    pub calls: u64,
+    pub faults: u64,
 }
 
 impl Script {
-    pub(crate) fn new(fails: Vec<u64>) -> Script
+    pub fn new(fails: Vec<u64>) -> Script
         ensures { result ≡ record { fails = fails; calls = 0; faults = 0 } }
     {
         Script {
@@ -23,7 +25,7 @@ impl Script {
 
     /// Counts a call, and its fault if it is one of those that fail.
     #[tactic(auto, using(crate::proofs::Scripts::none_is_later, crate::proofs::Scripts::next_is_fine))]
-    pub(crate) fn next_fails(&mut self) -> bool
+    pub fn next_fails(&mut self) -> bool
         ensures value { result ≡ is_to_fail self.old.fails.items self.old.calls }
         ensures fails { self.new.fails ≡ self.old.fails }
         ensures calls { self.new.calls ≡ counted self.old.calls }
@@ -43,7 +45,7 @@ impl Script {
     }
 
     /// Counts a fault.
-    pub(crate) fn note_fault(&mut self)
+    pub fn note_fault(&mut self)
         ensures after { self.new ≡ record self.old { faults = counted self.old.faults } }
         ensures grows { self.old.faults ≤ self.new.faults }
     {

@@ -2,7 +2,7 @@
 use Rattle.std.proofs.Common.{◌≡◌, ℕ, ◌<◌, ◌≤◌, nat_lt, ◌||◌, Bool, ap, List, [], ◌∷◌, true, false, refl, ◌∙◌, arith}
 use Rattle.std.proofs.lemmas.Bool.{and_parts, and_from, ltb-true, lt-ltb, ne_eqb}
 use Rattle.vx_base.specs.Calls.{none_to_fail}
-use Rattle.vx_host.specs.Memory.{is_to_fail}
+use Rattle.vx_store.specs.Script.{is_to_fail}
 
 -- if no call is still to fail, none is later
 pub none_is_later : (fails : List ℕ) (calls later : ℕ) → calls ≤ later → none_to_fail fails calls ≡ true → none_to_fail fails later ≡ true

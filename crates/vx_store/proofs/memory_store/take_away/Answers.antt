@@ -1,0 +1,6 @@
+use Rattle.vx_store.proofs.FileLaws.{files_of-set}
+use Rattle.std.proofs.Common.{None}
+use Rattle.vx_store.proofs.memory_store.take_away.Goals as goal
+
+pub returns : goal.returns
+returns c = files_of-set c.args.files.now.items c.args.number None

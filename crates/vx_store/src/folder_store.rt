@@ -1,0 +1,152 @@
+ghost use Rattle.std.specs.Prelude.{◌≡◌, ◌≤◌, ◌+◌, IfOk, OnOk, OnErr, length};
+ghost use Rattle.vx_base.specs.Causes.{HasCause, Rose};
+ghost use Rattle.vx_store.specs.Folder.{folder_view, faults_after, faults_with};
+ghost use Rattle.vx_store.specs.Store.{IsThere, Stays, Creates, Appends, AppendsSome, Reads, IsPastEnd, Removes, MayRemove, KeepsThere, StaysUnfailing, FailsOnly};
+
+use crate::error::StoreError;
+use crate::real_files::{Part, add_bytes, add_next, read_bytes, take_file};
+use crate::store::{FileNo, Store};
+use std::alloc::Global;
+use std::rt::Files;
+
+/// A store over real files, `vxspill/J-N.bin` below the current folder, with J the job and N the file's
+/// number.
+///
+/// The folder is made at the first `create`, and a file that stood under a name is replaced. Files are
+/// opened anew for each call. No clause tells what they hold.
+#[derive(Drop)]
+pub struct FolderStore<F> {
+    alloc: Global,
+    files: F,
+    job: u32,
+    next: u64,
+    faults: u64,
+}
+
+impl<F: Files + Drop> FolderStore<F> {
+    /// A store without files, none of whose calls has failed.
+    pub fn new(alloc: Global, files: F, job: u32) -> FolderStore<F>
+        ensures { result ≡ record { alloc = alloc; files = files; job = job; next = 0; faults = 0 } }
+    {
+        FolderStore {
+            alloc,
+            files,
+            job,
+            next: 0,
+            faults: 0,
+        }
+    }
+}
+
+impl<F: Files> Store for FolderStore<F> {
+    ghost state = { λ s. folder_view s.faults };
+
+    fn faults(&self) -> u64 {
+        self.faults
+    }
+
+    fn create(&mut self) -> Result<FileNo, StoreError>
+        ensures ok { IfOk result (λ file. Creates (folder_view self.old.faults).files (folder_view self.new.faults).files file.0) }
+        ensures err { OnErr result (Stays (folder_view self.old.faults).files (folder_view self.new.faults).files) }
+        ensures there { KeepsThere (λ _. ⊥) (folder_view self.old.faults).files (folder_view self.new.faults).files }
+        ensures ready { IfOk result (λ file. IsThere (folder_view self.new.faults).files file.0) }
+        ensures cause { HasCause (λ e. e ≡ StoreError.Failed) (folder_view self.old.faults).faults (folder_view self.new.faults).faults result }
+        ensures unfailing { StaysUnfailing (folder_view self.old.faults) (folder_view self.new.faults) }
+        ensures failed { FailsOnly (folder_view self.old.faults) result ⊥ }
+
+        // A fault is counted at a failure alone, and no number is given twice.
+        ensures faults { self.new.faults ≡ faults_after self.old.faults result }
+        ensures number { IfOk result (λ file. (file.0 ≡ self.old.next) × (self.new.next ≡ self.old.next + 1)) }
+    {
+        let number = self.next;
+        match add_next(self.alloc, &self.files, self.job, number) {
+            Ok(after) => {
+                self.next = after;
+                Ok(FileNo(number))
+            }
+            Err(error) => Err(self.noted(error)),
+        }
+    }
+
+    fn append(&mut self, file: FileNo, bytes: &[u8]) -> Result<u64, StoreError>
+        requires { IsThere (folder_view self.old.faults).files file.0 }
+        ensures ok { IfOk result (λ at. Appends (folder_view self.old.faults).files (folder_view self.new.faults).files file.0 bytes.now at) }
+        ensures err { OnErr result (AppendsSome (folder_view self.old.faults).files (folder_view self.new.faults).files file.0 bytes.now) }
+        ensures there { KeepsThere (λ _. ⊥) (folder_view self.old.faults).files (folder_view self.new.faults).files }
+        ensures cause { HasCause (λ e. e ≡ StoreError.Failed) (folder_view self.old.faults).faults (folder_view self.new.faults).faults result }
+        ensures unfailing { StaysUnfailing (folder_view self.old.faults) (folder_view self.new.faults) }
+        ensures failed { FailsOnly (folder_view self.old.faults) result ⊥ }
+
+        ensures faults { self.new.faults ≡ faults_after self.old.faults result }
+    {
+        match add_bytes(self.alloc, &self.files, self.job, file.0, bytes) {
+            Ok(at) => Ok(at),
+            Err(error) => Err(self.noted(error)),
+        }
+    }
+
+    fn read(
+        &mut self,
+        file: FileNo,
+        at: u64,
+        len: u32,
+        into: &mut Vec<u8>,
+    ) -> Result<(), StoreError>
+        requires { IsThere (folder_view self.old.faults).files file.0 }
+        ensures ok { OnOk result (Reads (folder_view self.old.faults).files file.0 at len into.new.items) }
+        ensures files { Stays (folder_view self.old.faults).files (folder_view self.new.faults).files }
+        ensures there { KeepsThere (λ _. ⊥) (folder_view self.old.faults).files (folder_view self.new.faults).files }
+        ensures cause { HasCause (λ e. e ≡ StoreError.Failed) (folder_view self.old.faults).faults (folder_view self.new.faults).faults result }
+        ensures unfailing { StaysUnfailing (folder_view self.old.faults) (folder_view self.new.faults) }
+        ensures failed { FailsOnly (folder_view self.old.faults) result (IsPastEnd (folder_view self.old.faults).files file.0 (at + len)) }
+
+        ensures faults { self.new.faults ≡ faults_after self.old.faults result }
+        ensures count { OnOk result (length into.new.items ≡ len) }
+    {
+        let part = Part {
+            job: self.job,
+            number: file.0,
+            at,
+            len,
+        };
+        match read_bytes(self.alloc, &self.files, part, into) {
+            Ok(()) => Ok(()),
+            Err(error) => Err(self.noted(error)),
+        }
+    }
+
+    fn remove(&mut self, file: FileNo) -> Result<(), StoreError>
+        requires { IsThere (folder_view self.old.faults).files file.0 }
+        ensures ok { OnOk result (Removes (folder_view self.old.faults).files (folder_view self.new.faults).files file.0) }
+        ensures err { OnErr result (MayRemove (folder_view self.old.faults).files (folder_view self.new.faults).files file.0) }
+        ensures there { KeepsThere (λ n. n ≡ file.0) (folder_view self.old.faults).files (folder_view self.new.faults).files }
+        ensures cause { HasCause (λ e. e ≡ StoreError.Failed) (folder_view self.old.faults).faults (folder_view self.new.faults).faults result }
+        ensures unfailing { StaysUnfailing (folder_view self.old.faults) (folder_view self.new.faults) }
+        ensures failed { FailsOnly (folder_view self.old.faults) result ⊥ }
+
+        ensures faults { self.new.faults ≡ faults_after self.old.faults result }
+    {
+        match take_file(self.alloc, &self.files, self.job, file.0) {
+            Ok(()) => Ok(()),
+            Err(error) => Err(self.noted(error)),
+        }
+    }
+}
+
+impl<F> FolderStore<F> {
+    /// Counts an error that is a fault, and hands it on.
+    fn noted(&mut self, error: StoreError) -> StoreError
+        ensures same { result ≡ error }
+        ensures faults { self.new ≡ record self.old { faults = faults_with self.old.faults error } }
+        ensures later { self.old.faults ≤ self.new.faults }
+        ensures risen { error ≡ StoreError.Failed → Rose self.old.faults self.new.faults }
+    {
+        match error {
+            StoreError::NoMemory => StoreError::NoMemory,
+            StoreError::Failed => {
+                self.faults = self.faults.saturating_add(1);
+                StoreError::Failed
+            }
+        }
+    }
+}

@@ -1,4 +1,1 @@
-pub mod PlanLaws
-pub mod PrintingLaws
-pub mod ReadingLaws
 pub mod RunLaws

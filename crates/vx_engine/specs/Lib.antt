@@ -1,8 +1,6 @@
 pub mod Answer
 pub mod Ending
-pub mod Outcome
 pub mod Printing
-pub mod Reading
 pub mod Run
 pub mod Stop
 pub mod Words

@@ -1,41 +1,38 @@
--- The texts that the program prints.
-use Rattle.std.specs.Prelude.{List, [], ◌∷◌, ◌++◌, ℕ, ◌/◌, ◌%◌, length, map, codes, decimal, true, false}
-use Rattle.std.specs.Char.{digit_char}
-use Rattle.std.specs.Fmt.{signed_decimal}
-use Rattle.std.specs.List.{flat_map, join_with_byte}
-use Rattle.std.specs.Str.{byte}
-use Rattle.json.specs.Print.{quoted}
+-- The texts that go to the output.
+use Rattle.std.specs.Prelude.{List, ◌++◌, ℕ, length, codes, decimal}
+use Rattle.std.specs.List.{flat_map}
 use Rattle.vx_value.specs.declared.value.Value.{Value}
-use Rattle.vx_value.specs.declared.value.Value.TheVariants.{Null, Bool, Int, Text}
+use Rattle.vx_expr.specs.declared.outcome.Fault.{Fault}
+use Rattle.vx_expr.specs.declared.outcome.Fault.TheVariants as fault
+use Rattle.vx_json.specs.Printing.{row_text}
+use Rattle.vx_meaning.specs.declared.outcome.SlowAnswer.{SlowAnswer}
+use Rattle.vx_meaning.specs.declared.outcome.SlowAnswer.TheVariants.{Rows, Fault as Faults}
 
--- `\u00` and the two hexadecimal digits of a byte
-abbrev pub code_text : ℕ → List ℕ
-code_text code = codes "\\u00" ++ digit_char (code / 16) ∷ digit_char (code % 16) ∷ []
-
--- a cell as JSON (RFC 8259), a text by the shortest escapes
-abbrev pub cell_text : Value → List ℕ
-cell_text Null = codes "null"
-cell_text (Bool true) = codes "true"
-cell_text (Bool false) = codes "false"
-cell_text (Text text) = quoted text
-cell_text (Int number) = signed_decimal number
-
--- cells with commas between them
-abbrev pub cells_text : List Value → List ℕ
-cells_text cells = join_with_byte (byte ",") (map cell_text cells)
-
--- cells with a comma before each
-abbrev pub rest_text : List Value → List ℕ
-rest_text cells = flat_map (λ cell. byte "," ∷ cell_text cell) cells
-
--- a row as a compact JSON array, on a line of its own
+-- a row as compact JSON, on a line of its own
 abbrev pub row_line : List Value → List ℕ
-row_line cells = codes "[" ++ cells_text cells ++ codes "]\n"
+row_line row = row_text row ++ codes "\n"
 
--- the head of a section: job 0 and its file's name, then `ok` and the number of rows
-abbrev pub head_text : List ℕ → ℕ → List ℕ
-head_text name count = codes "== 0 " ++ name ++ codes "\nok " ++ decimal count ++ codes "\n"
+-- the name of a fault
+abbrev pub code_name : Fault → List ℕ
+code_name fault.Overflow = codes "overflow"
+code_name fault.DivideByZero = codes "divide_by_zero"
+code_name fault.TooLong = codes "too_long"
 
--- what is printed of a file's plan that has these rows as its answer
-abbrev pub section_text : List ℕ → List (List Value) → List ℕ
-section_text name rows = head_text name (length rows) ++ flat_map row_line rows
+-- `ok` and the number of rows, then a line for each
+abbrev pub rows_text : List (List Value) → List ℕ
+rows_text rows = codes "ok " ++ decimal (length rows) ++ codes "\n" ++ flat_map row_line rows
+
+-- a fault with its node, and the row or the key
+abbrev pub fault_head : ℕ → List ℕ → List ℕ
+fault_head node code = codes "error fault node=" ++ decimal node ++ codes " code=" ++ code ++ codes " row="
+
+abbrev pub fault_text : ℕ → List Value → Fault → List ℕ
+fault_text node row code = fault_head node (code_name code) ++ row_line row
+
+abbrev pub outcome_text : SlowAnswer → List ℕ
+outcome_text (Rows rows) = rows_text rows
+outcome_text (Faults node row code) = fault_text node row code
+
+-- what is printed of a file's plan: job 0, the file's name, and the outcome
+abbrev pub section_text : List ℕ → SlowAnswer → List ℕ
+section_text name answer = codes "== 0 " ++ name ++ codes "\n" ++ outcome_text answer

@@ -6,12 +6,17 @@ use Rattle.vx_base.specs.Told.{gained, GainsSome}
 use Rattle.vx_host.specs.Views.{SinkView, FilesView}
 use Rattle.vx_host.specs.Host.{Stands, IsTooBig, KeepsFiles}
 use Rattle.vx_plan.specs.declared.node.Plan.{Plan}
+use Rattle.vx_value.specs.Row.{Row}
+use Rattle.vx_expr.specs.declared.outcome.Fault.{Fault}
 use Rattle.vx_plan.specs.declared.refusal.Refusal.{Refusal}
-use Rattle.vx_plan.specs.declared.refusal.Refusal.TheVariants.{P1, P8}
-use Rattle.vx_value.specs.declared.value.Value.{Value}
-use Rattle.vx_engine.specs.Answer.{Answer}
+use Rattle.vx_json.specs.Place.{Said as Reason}
+use Rattle.vx_json.specs.Outcome.{said_of}
+use Rattle.vx_json.specs.Refusals.{refusal_text}
+use Rattle.vx_json.specs.Plans.{plan_of}
+use Rattle.vx_meaning.specs.declared.outcome.SlowAnswer.{SlowAnswer}
+use Rattle.vx_meaning.specs.declared.outcome.SlowAnswer.TheVariants.{Rows, Fault as Faults}
+use Rattle.vx_engine.specs.Answer.{Means}
 use Rattle.vx_engine.specs.Printing.{section_text}
-use Rattle.vx_engine.specs.Reading.{plan_of}
 
 -- the most bytes that a plan file may have
 abbrev pub file_limit : ℕ
@@ -27,10 +32,6 @@ no_memory_line = codes "vxrun: out of memory\n"
 abbrev pub file_line : List ℕ → List ℕ → List ℕ
 file_line name what = codes "vxrun: " ++ name ++ codes ": " ++ what ++ codes "\n"
 
-abbrev pub refusal_text : Refusal → List ℕ
-refusal_text P1 = codes "P1"
-refusal_text P8 = codes "P8"
-
 -- what stands under the named file: bytes or nothing, where there is a name and the host tells what does
 abbrev pub told_file : FilesView → Option (List ℕ) → Option (Option (List ℕ))
 told_file files named = option_and_then (λ name. option_map (λ bytes_of. bytes_of name) files.bytes_of) named
@@ -43,34 +44,43 @@ IsUnreadable (Some bytes) = file_limit < length bytes
 -- bytes that are refused
 abbrev pub IsRefused : Option (List ℕ) → Type 0
 IsRefused None = ⊥
-IsRefused (Some bytes) = (refusal : Refusal) × (plan_of bytes ≡ Err refusal)
+IsRefused (Some bytes) = (reason : Reason) × (plan_of bytes ≡ Err reason)
 
 -- The bytes that stand under the name: told ones, or some that the host doesn't tell.
-pub record IsPlanOf (files : FilesView) (name : List ℕ) (plan : Result Plan Refusal) : Type 0 where
+pub record IsPlanOf (files : FilesView) (name : List ℕ) (plan : Result Plan Reason) : Type 0 where
   pub bytes : List ℕ
   pub stands : Stands files name bytes
   pub within : length bytes ≤ file_limit
   pub is : plan_of bytes ≡ plan
 
--- the text is that of an answer of the file's plan
-pub record IsOutputOf (files : FilesView) (name text : List ℕ) : Type 0 where
+-- the file's plan means this answer: rows that answer it, or a fault that it can meet
+pub record IsAnswerOf (files : FilesView) (name : List ℕ) (answer : SlowAnswer) : Type 0 where
   pub plan : Plan
   pub read : IsPlanOf files name (Ok plan)
-  pub rows : List (List Value)
-  pub answer : Answer plan rows
-  pub printed : text ≡ section_text name rows
+  pub means : Means plan answer
 
--- out gained the text of an answer of the file's plan
-pub record Prints (files : FilesView) (out out' : SinkView) (name : List ℕ) : Type 0 where
-  pub text : List ℕ
-  pub is : IsOutputOf files name text
-  pub whole : out'.taken ≡ gained out.taken text
+-- out gained the section of this answer of the file's plan
+pub record Prints (files : FilesView) (out out' : SinkView) (name : List ℕ) (answer : SlowAnswer) : Type 0 where
+  pub is : IsAnswerOf files name answer
+  pub whole : out'.taken ≡ gained out.taken (section_text name answer)
 
--- out gained a front of such a text
+-- out gained the section of rows that answer the file's plan
+pub record PrintsRows (files : FilesView) (out out' : SinkView) (name : List ℕ) : Type 0 where
+  pub rows : List Row
+  pub prints : Prints files out out' name (Rows rows)
+
+-- out gained the section of a fault that the file's plan can meet
+pub record PrintsFault (files : FilesView) (out out' : SinkView) (name : List ℕ) : Type 0 where
+  pub node : ℕ
+  pub row : Row
+  pub code : Fault
+  pub prints : Prints files out out' name (Faults node row code)
+
+-- out gained a front of the section of rows or a fault
 pub record PrintsFront (files : FilesView) (out out' : SinkView) (name : List ℕ) : Type 0 where
-  pub text : List ℕ
-  pub is : IsOutputOf files name text
-  pub front : GainsSome out.taken out'.taken text
+  pub answer : SlowAnswer
+  pub is : IsAnswerOf files name answer
+  pub front : GainsSome out.taken out'.taken (section_text name answer)
 
 -- err gained the line, or a front of it
 abbrev pub Says : SinkView → SinkView → List ℕ → Type 0
@@ -89,7 +99,7 @@ pub data SaysUnread (Said : SinkView → SinkView → List ℕ → Type 0) (file
 -- the file's bytes are refused, and the line names the refusal
 pub record SaysRefusal (Said : SinkView → SinkView → List ℕ → Type 0) (files : FilesView) (err err' : SinkView) (name : List ℕ) : Type 0 where
   pub refusal : Refusal
-  pub read : IsPlanOf files name (Err refusal)
+  pub read : IsPlanOf files name (Err (said_of refusal))
   pub said : Said err err' (file_line name (refusal_text refusal))
 
 -- a sink's count doesn't fall, and where no call is still to fail, none is afterwards
@@ -99,7 +109,7 @@ pub record GoesOn (before after : SinkView) : Type 0 where
 
 -- the statuses that there are
 abbrev pub is_status : ℕ → Bool
-is_status status = list_any (λ known. status == known) (0 ∷ 2 ∷ 3 ∷ 4 ∷ 5 ∷ 6 ∷ [])
+is_status status = list_any (λ known. status == known) (0 ∷ 1 ∷ 2 ∷ 3 ∷ 4 ∷ 5 ∷ 6 ∷ [])
 
 -- What a run did, by its status. The top call has the same statements as clauses of these names.
 pub record IsRun (Said : SinkView → SinkView → List ℕ → Type 0) (named : Option (List ℕ)) (files files' : FilesView) (out out' err err' : SinkView) (status : ℕ) : Type 0 where
@@ -116,9 +126,10 @@ pub record IsRun (Said : SinkView → SinkView → List ℕ → Type 0) (named :
   pub cut_short : status ≡ 4 → IsSomeAnd named (PrintsFront files out out')
   pub out_of_memory : status ≡ 5 → (out' ≡ out) ⊎ IsSomeAnd named (PrintsFront files out out')
   pub out_of_memory_said : status ≡ 5 → Said err err' no_memory_line
-  pub printed : status ≡ 0 → IsSomeAnd named (Prints files out out')
+  pub printed : status ≡ 0 → IsSomeAnd named (PrintsRows files out out')
+  pub faulted : status ≡ 1 → IsSomeAnd named (PrintsFault files out out')
   pub untouched : (status ≡ 2) ⊎ (status ≡ 3) ⊎ (status ≡ 6) → out' ≡ out
-  pub quiet : (status ≡ 0) ⊎ (status ≡ 4) → err' ≡ err
+  pub quiet : (status ≡ 0) ⊎ (status ≡ 1) ⊎ (status ≡ 4) → err' ≡ err
   pub files_stay : KeepsFiles files files'
   pub files_later : files.faults ≤ files'.faults
   pub out_later : GoesOn out out'

@@ -4,11 +4,12 @@ use Rattle.vx_host.specs.declared.error.ReadError.{ReadError}
 use Rattle.vx_host.specs.declared.error.ReadError.TheVariants as read
 use Rattle.vx_host.specs.declared.error.SinkError.{SinkError}
 use Rattle.vx_host.specs.declared.error.SinkError.TheVariants as sink
-use Rattle.vx_engine.specs.declared.reading.PlanError.{PlanError}
-use Rattle.vx_engine.specs.declared.reading.PlanError.TheVariants as plan
+use Rattle.vx_json.specs.Refusals.{refusal_text}
+use Rattle.vx_json.specs.declared.error.PlanError.{PlanError}
+use Rattle.vx_json.specs.declared.error.PlanError.TheVariants as plan
 use Rattle.vx_engine.specs.declared.stop.Stop.{Stop}
 use Rattle.vx_engine.specs.declared.stop.Stop.TheVariants.{NotRead, TooBig, Refused, NotWritten, NoMemory}
-use Rattle.vx_engine.specs.Run.{no_memory_line, file_line, refusal_text}
+use Rattle.vx_engine.specs.Run.{no_memory_line, file_line}
 
 abbrev pub stop_of_read : ReadError → Stop
 stop_of_read read.Failed = NotRead

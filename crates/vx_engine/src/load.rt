@@ -5,10 +5,10 @@ ghost use Rattle.vx_host.specs.Host.{KeepsFiles};
 ghost use Rattle.vx_host.specs.declared.host.To.{To as Place};
 ghost use Rattle.vx_engine.specs.Ending.{Loads};
 
-use crate::reading::plan_of;
 use crate::stop::Stop;
 use std::alloc::Global;
 use vx_host::Host;
+use vx_json::plan_of;
 use vx_plan::Plan;
 
 /// The most bytes that a plan file may have.

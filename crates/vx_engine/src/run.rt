@@ -9,11 +9,12 @@ ghost use Rattle.vx_engine.specs.Stop.{line_of};
 ghost use Rattle.vx_engine.specs.Words.{name_of};
 
 use crate::load::load;
-use crate::print::print;
-use crate::stop::{BAD_WORDS, DONE, Stop};
+use crate::print::{Printed, print};
+use crate::stop::{BAD_WORDS, DONE, FAULTED, Stop};
 use crate::words::file_name;
 use std::alloc::Global;
 use vx_host::{Host, SinkError, To, give_all};
+use vx_meaning::slow_answer;
 
 /// How a run ended: its status, and how the write of its line to err went, if there was one.
 #[derive(Drop)]
@@ -25,7 +26,7 @@ pub(crate) struct Finished {
 /// How a run over a named file ended, and how the write of its line to err went, if there was one.
 #[derive(Drop)]
 struct Ended {
-    outcome: Result<(), Stop>,
+    outcome: Result<Printed, Stop>,
     said: Result<(), SinkError>,
 }
 
@@ -57,11 +58,12 @@ pub(crate) fn run_words<H: Host>(alloc: Global, words: &[String], host: &mut H) 
     }
 }
 
-fn status_of_run(outcome: &Result<(), Stop>) -> u8
+fn status_of_run(outcome: &Result<Printed, Stop>) -> u8
     ensures { result ≡ status_of_run outcome.now }
 {
     match outcome {
-        Ok(()) => DONE,
+        Ok(Printed::Rows) => DONE,
+        Ok(Printed::Fault) => FAULTED,
         Err(stop) => stop.status(),
     }
 }
@@ -75,8 +77,8 @@ fn run_file<H: Host>(alloc: Global, name: &str, host: &mut H) -> Ended
         (H.sink host.old Errors) (H.sink host.new Errors) name.now result.outcome) }
 {
     match answer(alloc, name, host) {
-        Ok(()) => Ended {
-            outcome: Ok(()),
+        Ok(printed) => Ended {
+            outcome: Ok(printed),
             said: Ok(()),
         },
         Err(Stop::NotWritten) => Ended {
@@ -94,7 +96,7 @@ fn run_file<H: Host>(alloc: Global, name: &str, host: &mut H) -> Ended
 }
 
 /// Runs the plan of the named file and writes its section to the output.
-fn answer<H: Host>(alloc: Global, name: &str, host: &mut H) -> Result<(), Stop>
+fn answer<H: Host>(alloc: Global, name: &str, host: &mut H) -> Result<Printed, Stop>
     ensures ends { Ends (H.files host.old) (H.files host.new) (H.sink host.old Output) (H.sink host.new Output) name.now result }
     ensures files { KeepsFiles (H.files host.old) (H.files host.new) }
     ensures later { (H.files host.old).faults ≤ (H.files host.new).faults }
@@ -102,7 +104,8 @@ fn answer<H: Host>(alloc: Global, name: &str, host: &mut H) -> Result<(), Stop>
     ensures errors { H.sink host.new Errors ≡ H.sink host.old Errors }
 {
     let plan = load(alloc, name, host)?;
-    print(alloc, name, &plan, host)
+    let answer = slow_answer(alloc, &plan)?;
+    print(alloc, name, &answer, host)
 }
 
 /// Writes the line that belongs to the cause. An error says that it wasn't written whole.

@@ -1,15 +1,18 @@
 //! Why a run stopped before its output was written, and the status and the line that say so.
 
 ghost use Rattle.std.specs.Prelude.{◌≡◌, IfOk, string_bytes};
-ghost use Rattle.vx_engine.specs.Run.{file_line, refusal_text};
+ghost use Rattle.vx_json.specs.Refusals.{refusal_text};
+ghost use Rattle.vx_engine.specs.Run.{file_line};
 
-use crate::reading::PlanError;
 use std::alloc::{AllocError, Global};
 use vx_host::{ReadError, SinkError};
+use vx_json::{PlanError, refusal_text};
 use vx_plan::Refusal;
 
-/// All was written.
+/// All was written, and the plan's rows are its answer.
 pub const DONE: u8 = 0;
+/// All was written, and the plan met a fault.
+pub const FAULTED: u8 = 1;
 /// The words aren't lawful.
 pub const BAD_WORDS: u8 = 2;
 /// The file's bytes are no plan.
@@ -112,20 +115,18 @@ impl Stop {
         match self {
             Stop::NotRead => file_line(alloc, name, "cannot be read"),
             Stop::TooBig => file_line(alloc, name, "too big"),
-            Stop::Refused(refusal) => file_line(alloc, name, refusal_text(*refusal)),
+            Stop::Refused(refusal) => refused_line(alloc, name, refusal),
             Stop::NotWritten => Ok(String::new(alloc)),
             Stop::NoMemory => String::from_str(alloc, "vxrun: out of memory\n"),
         }
     }
 }
 
-fn refusal_text(refusal: Refusal) -> &'static str
-    ensures { result.now ≡ refusal_text refusal }
+fn refused_line(alloc: Global, name: &str, refusal: &Refusal) -> Result<String, AllocError>
+    ensures { IfOk result (λ line. string_bytes line ≡ file_line name.now (refusal_text refusal.now)) }
 {
-    match refusal {
-        Refusal::P1 => "P1",
-        Refusal::P8 => "P8",
-    }
+    let text = refusal_text(alloc, refusal)?;
+    file_line(alloc, name, text.as_str())
 }
 
 fn file_line(alloc: Global, name: &str, what: &str) -> Result<String, AllocError>

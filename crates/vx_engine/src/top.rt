@@ -4,11 +4,11 @@ ghost use Rattle.std.specs.Prelude.{◌≡◌, ◌≢◌, ◌≤◌, ◌⊎◌, 
 ghost use Rattle.vx_base.specs.Causes.{Rose};
 ghost use Rattle.vx_host.specs.Host.{KeepsFiles};
 ghost use Rattle.vx_host.specs.declared.host.To.TheVariants.{Output, Errors};
-ghost use Rattle.vx_engine.specs.Run.{is_status, told_file, IsUnreadable, IsRefused, Says, SaysUnread, SaysRefusal, Prints, PrintsFront, GoesOn, bad_words_line, no_memory_line};
+ghost use Rattle.vx_engine.specs.Run.{is_status, told_file, IsUnreadable, IsRefused, Says, SaysUnread, SaysRefusal, PrintsRows, PrintsFault, PrintsFront, GoesOn, bad_words_line, no_memory_line};
 ghost use Rattle.vx_engine.specs.Words.{name_of};
 
 use crate::run::run_words;
-use crate::stop::{BAD_WORDS, DONE, NO_MEMORY, NOT_READ, NOT_WRITTEN, REFUSED};
+use crate::stop::{BAD_WORDS, DONE, FAULTED, NO_MEMORY, NOT_READ, NOT_WRITTEN, REFUSED};
 use std::alloc::Global;
 use std::sync::Wait;
 use std::thread::Threads;
@@ -16,8 +16,8 @@ use vx_host::{Gate, Host};
 
 /// Runs the plan file that the words name, and answers the program's status.
 ///
-/// Word 0 is the program's name. The host's output gets `== 0 NAME`, `ok N` and N rows as compact JSON, or
-/// its errors get one line, each ended by a line feed. That a write to the errors fails changes nothing.
+/// Word 0 is the program's name. The host's output gets `== 0 NAME` and then `ok N` and N rows as compact
+/// JSON, or the fault that the plan met; or its errors get one line. Each line is ended by a line feed. That a write to the errors fails changes nothing.
 /// `rt` and the gate are for the workers of later commands; nothing is started or waited for today.
 pub fn vxrun<R: Threads + Wait + Sync, H: Host, G: Gate + Sync>(
     _rt: &R,
@@ -53,9 +53,11 @@ pub fn vxrun<R: Threads + Wait + Sync, H: Host, G: Gate + Sync>(
         → Rose (H.sink host.old Output).faults (H.sink host.new Output).faults }
     ensures written { (H.sink host.old Output).unfailing ≡ true → result ≢ NOT_WRITTEN }
 
-    // What was written is an answer of the file's plan, or a front of one.
+    // What was written is an answer of the file's plan, a fault that it can meet, or a front of one of these.
     ensures printed { result ≡ DONE → IsSomeAnd (name_of words.now)
-        (Prints (H.files host.old) (H.sink host.old Output) (H.sink host.new Output)) }
+        (PrintsRows (H.files host.old) (H.sink host.old Output) (H.sink host.new Output)) }
+    ensures faulted { result ≡ FAULTED → IsSomeAnd (name_of words.now)
+        (PrintsFault (H.files host.old) (H.sink host.old Output) (H.sink host.new Output)) }
     ensures cut_short { result ≡ NOT_WRITTEN → IsSomeAnd (name_of words.now)
         (PrintsFront (H.files host.old) (H.sink host.old Output) (H.sink host.new Output)) }
     ensures out_of_memory { result ≡ NO_MEMORY → (H.sink host.new Output ≡ H.sink host.old Output)
@@ -66,7 +68,7 @@ pub fn vxrun<R: Threads + Wait + Sync, H: Host, G: Gate + Sync>(
 
     ensures out_of_memory_said { result ≡ NO_MEMORY
         → Says (H.sink host.old Errors) (H.sink host.new Errors) no_memory_line }
-    ensures quiet { (result ≡ DONE) ⊎ (result ≡ NOT_WRITTEN)
+    ensures quiet { (result ≡ DONE) ⊎ (result ≡ FAULTED) ⊎ (result ≡ NOT_WRITTEN)
         → H.sink host.new Errors ≡ H.sink host.old Errors }
 
     // The files stay. Counts never fall, and what has no call that is still to fail has none afterwards.

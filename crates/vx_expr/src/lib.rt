@@ -6,6 +6,7 @@ mod evaluation;
 mod expression;
 mod functions;
 mod outcome;
+mod sizes;
 #[cfg(test)]
 mod tests;
 mod typing;
@@ -13,4 +14,5 @@ mod typing;
 pub use evaluation::eval_row;
 pub use expression::{Expr, Func};
 pub use outcome::{Fault, Got, TypeError};
+pub use sizes::{is_within_depth, longest_literal, text_len};
 pub use typing::type_of;

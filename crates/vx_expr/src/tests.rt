@@ -1,4 +1,7 @@
-use crate::{Expr, Fault, Func, Got, TypeError, eval_row, type_of};
+use crate::{
+    Expr, Fault, Func, Got, TypeError, eval_row, is_within_depth, longest_literal, text_len,
+    type_of,
+};
 use sqlite_items::Items;
 use std::alloc::{AllocError, Global};
 use std::test::Fail;
@@ -289,5 +292,22 @@ fn refusals_come_in_their_order(rt: HostRuntime) -> Result<(), Fail> {
         let typed = letter_of_type(type_of(&e, &[Kind::Int]));
         assert_eq!(rt; typed, want, "{func:?} {arguments:?}");
     }
+    Ok(())
+}
+
+fn two_texts(alloc: Global) -> Result<Expr, AllocError> {
+    two(alloc, Func::Concat, letters(alloc, 3)?, letters(alloc, 5)?)
+}
+
+#[test]
+fn levels_and_the_longest_text_are_counted(rt: HostRuntime) -> Result<(), Fail> {
+    let e = two_texts(rt.alloc())?;
+    assert!(rt; is_within_depth(&e, 2));
+    assert!(rt; !is_within_depth(&e, 1));
+    assert!(rt; is_within_depth(&Expr::Column(0), 1));
+    assert!(rt; !is_within_depth(&int(0), 0));
+    assert_eq!(rt; longest_literal(&e), 5);
+    assert_eq!(rt; longest_literal(&int(0)), 0);
+    assert_eq!(rt; text_len(&Value::Null), 0);
     Ok(())
 }

@@ -1,0 +1,9 @@
+pub mod Check
+pub mod Ids
+pub mod Kinds
+pub mod Limits
+pub mod Outcome
+pub mod Tree
+pub mod Types
+pub mod Width
+pub mod Widths

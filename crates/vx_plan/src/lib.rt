@@ -1,11 +1,32 @@
-//! Query plans: a tree of nodes, each with its number, and the refusals of a plan file.
+//! Query plans: a tree of nodes, each with its number, the refusals of a plan file, and what is asked of a plan
+//! that was read: limits, ids, types, widths.
 //!
-//! Today a plan is one values node. Its lists are `Items`, which contracts see as lists, so a plan is
-//! plain data in every definition.
+//! Lists are `Items` and the way to a source is `Boxed`, which contracts see as what they hold, so a plan is
+//! plain data in every definition. `specs/Check.antt` has the order of the stages, one file each.
 #![tactic(auto)]
 
+mod aggregate;
+mod aggregates;
+mod allowance;
+mod checking;
+mod columns;
+mod copies;
+mod growth;
+mod ids;
+mod kinds;
+mod lists;
 mod node;
 mod refusal;
+#[cfg(test)]
+mod tests;
+mod texts;
+mod types;
+mod widths;
 
-pub use node::{Body, Node, Plan};
-pub use refusal::Refusal;
+pub use aggregate::{Aggregate, AggregateName, Step};
+pub use checking::{check, check_sizes};
+pub use kinds::Kinds;
+pub use node::{Body, ExchangeKind, JoinKind, Node, Plan};
+pub use refusal::{LimitName, Refusal};
+pub use types::node_kinds;
+pub use widths::{Width, node_width};

@@ -1,9 +1,19 @@
 use Rattle.std.proofs.Common.{◌≡◌, Some, rules}
 use Rattle.vx_host.specs.declared.host.To.TheVariants.{Output, Errors}
-use Rattle.vx_engine.specs.Run.{SaysWhole}
+use Rattle.vx_engine.specs.Run.{Says, SaysWhole}
 use Rattle.vx_engine.specs.Words.{name_of}
 use Rattle.vx_engine.proofs.RunLaws.{IsRun-from_Ran, OnOk-then}
 use Rattle.vx_engine.proofs.run.run_words.Goals as goal
+
+-- a run over a named file is one of its status
+pub returns-in-Some-clause-run : goal.returns-in-Some-clause-run
+returns-in-Some-clause-run g c =
+    let named : name_of c.args.words.now ≡ Some c.in-Some.name.now = search rules in
+    let ended = c.run_file-ended in
+    IsRun-from_Ran Says (name_of c.args.words.now) (g.H.Host.files c.args.host.now) (g.H.Host.files ended.new.host)
+    (g.H.Host.sink c.args.host.now Output) (g.H.Host.sink ended.new.host Output)
+    (g.H.Host.sink c.args.host.now Errors) (g.H.Host.sink ended.new.host Errors)
+    c.in-Some.name.now ended.result.outcome c.status_of_run-status.result named c.status_of_run-status.ensures ended.ensures.ran
 
 -- where the line was written whole, the run is one of whole lines
 pub returns-in-Some-clause-whole : goal.returns-in-Some-clause-whole

@@ -1,0 +1,43 @@
+"""What the scripts of this folder share: programs of the repository, and processor seconds of one run."""
+import os
+import subprocess
+import sys
+from pathlib import Path
+
+TOP = Path(__file__).resolve().parent.parent
+
+
+def built(crate: str) -> str:
+    """The program of a crate, built by `rt run` where it is missing."""
+    program = TOP / "crates" / crate / "out" / crate
+    if not program.exists():
+        print(f"building {crate}", flush=True)
+        subprocess.run(["rt", "run"], cwd=TOP / "crates" / crate, stdin=subprocess.DEVNULL,
+                       stdout=subprocess.DEVNULL, stderr=subprocess.DEVNULL)
+    return str(program)
+
+
+def timed(command: list[str], out: Path) -> tuple[float, int]:
+    """Processor seconds, and the most memory in KiB, of one run with its output in a file."""
+    with out.open("wb") as sink:
+        child = os.posix_spawn(command[0], command, os.environ,
+                               file_actions=[(os.POSIX_SPAWN_DUP2, sink.fileno(), 1)])
+        _, status, usage = os.wait4(child, 0)
+    if status != 0:
+        sys.exit(f"{command} ended with {os.waitstatus_to_exitcode(status)}")
+    return usage.ru_utime + usage.ru_stime, usage.ru_maxrss
+
+
+def best_of(commands: dict[str, list[str]], folder: Path, turns: int) -> dict[str, tuple[float, int]]:
+    """Each command so many times, in turn, and the best run of each; its output stays in the folder."""
+    runs = {name: [] for name in commands}
+    for _ in range(turns):
+        for name, command in commands.items():
+            runs[name].append(timed(command, folder / name))
+    return {name: min(run) for name, run in runs.items()}
+
+
+def report(best: dict[str, tuple[float, int]], size: float) -> None:
+    """A line for each program over a file of so many megabytes."""
+    for name, (seconds, memory) in best.items():
+        print(f"{name:18} {seconds:6.3f} s {size / seconds:7.1f} MB/s {memory / 1024:7.1f} MB at most")

@@ -1,0 +1,7 @@
+pub mod ExpressionLaws
+pub mod ListLaws
+pub mod LongLaws
+pub mod NodeLaws
+pub mod OutcomeLaws
+pub mod PlanLaws
+pub mod PrintingLaws

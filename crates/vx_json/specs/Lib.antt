@@ -1,0 +1,11 @@
+pub mod Cells
+pub mod Expressions
+pub mod Fields
+pub mod Lists
+pub mod Nodes
+pub mod Outcome
+pub mod Place
+pub mod Plans
+pub mod Printing
+pub mod Refusals
+pub mod Words

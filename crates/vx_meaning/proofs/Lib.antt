@@ -1,0 +1,13 @@
+pub mod RowLemmas
+pub mod FoldLemmas
+pub mod Shuffles
+pub mod PlusLaws
+pub mod FoldLaws
+pub mod Keyed
+pub mod SumLemmas
+pub mod JoinLemmas
+pub mod LineLaws
+pub mod GroupLemmas
+pub mod StopLemmas
+pub mod JoinLaws
+pub mod SettledLaws

@@ -1,0 +1,15 @@
+pub mod Rows
+pub mod Folds
+pub mod Groups
+pub mod Joins
+pub mod Lines
+pub mod Answer
+pub mod Begun
+pub mod Faulty
+pub mod Stopped
+pub mod Images
+pub mod Sums
+pub mod Picks
+pub mod JoinWords
+pub mod Settled
+pub mod Groupings

@@ -1,0 +1,6 @@
+use Rattle.std.proofs.Common.{◌≡◌, map, drop}
+use Rattle.vx_plan.specs.Types.{are_there}
+use Rattle.vx_plan.proofs.types.are_sort_keys_there.Given as goal
+
+abbrev pub invariant-loop-key : goal.invariant-loop-key
+invariant-loop-key l = are_there l.kinds (map (λ key. key.column) (drop l.key-index l.keys)) ≡ are_there l.kinds (map (λ key. key.column) l.keys)

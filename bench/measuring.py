@@ -17,23 +17,25 @@ def built(crate: str) -> str:
     return str(program)
 
 
-def timed(command: list[str], out: Path) -> tuple[float, int]:
+def timed(command: list[str], out: Path, statuses: tuple[int, ...] = (0,)) -> tuple[float, int]:
     """Processor seconds, and the most memory in KiB, of one run with its output in a file."""
     with out.open("wb") as sink:
         child = os.posix_spawn(command[0], command, os.environ,
-                               file_actions=[(os.POSIX_SPAWN_DUP2, sink.fileno(), 1)])
+                               file_actions=[(os.POSIX_SPAWN_DUP2, sink.fileno(), 1),
+                                             (os.POSIX_SPAWN_OPEN, 2, "/dev/null", os.O_WRONLY, 0)])
         _, status, usage = os.wait4(child, 0)
-    if status != 0:
+    if os.waitstatus_to_exitcode(status) not in statuses:
         sys.exit(f"{command} ended with {os.waitstatus_to_exitcode(status)}")
     return usage.ru_utime + usage.ru_stime, usage.ru_maxrss
 
 
-def best_of(commands: dict[str, list[str]], folder: Path, turns: int) -> dict[str, tuple[float, int]]:
+def best_of(commands: dict[str, list[str]], folder: Path, turns: int,
+            statuses: tuple[int, ...] = (0,)) -> dict[str, tuple[float, int]]:
     """Each command so many times, in turn, and the best run of each; its output stays in the folder."""
     runs = {name: [] for name in commands}
     for _ in range(turns):
         for name, command in commands.items():
-            runs[name].append(timed(command, folder / name))
+            runs[name].append(timed(command, folder / name, statuses))
     return {name: min(run) for name, run in runs.items()}
 
 

@@ -1,13 +1,13 @@
 -- The laws of joins: the order of rows doesn't matter, and a join of parts between which nothing matches is the parts'
 -- joins put together.
-use Rattle.std.proofs.Common.{◌≡◌, ◌≢◌, ℕ, Bool, true, false, not, ◌&&◌, ◌||◌, cond, List, [], ◌∷◌, ◌++◌, map, length, get_or, All, refl, sym, ap, ap₂, ◌∙◌, subst, arith, append_assoc, true≢false}
+use Rattle.std.proofs.Common.{◌<◌, ◌+◌, ◌≡◌, ◌≢◌, ℕ, Bool, true, false, not, ◌&&◌, ◌||◌, cond, List, [], ◌∷◌, ◌++◌, map, length, get_or, All, refl, sym, ap, ap₂, ◌∙◌, subst, arith, append_assoc, true≢false}
 use Rattle.std.specs.Prelude.{filter, flat_map}
 use Rattle.std.specs.List.{list_any}
 use Rattle.std.specs.List.Sorted.{IsPermutation}
 use Rattle.std.specs.Ordering.{eq_by_cmp}
 use Rattle.std.proofs.lemmas.List.{append-nil, map-append}
 use Rattle.std.proofs.lemmas.List.Concat.{flat_map-append}
-use Rattle.std.proofs.lemmas.List.Elements.{filter-append}
+use Rattle.std.proofs.lemmas.List.Elements.{filter-append, All-append}
 use Rattle.std.proofs.lemmas.List.Folds.{list_any-append}
 use Rattle.std.proofs.lemmas.List.Sorted.{IsPermutation-refl, IsPermutation-trans, IsPermutation-map, IsPermutation-append, IsPermutation-append_left, IsPermutation-append_right, IsPermutation-append_comm, list_any-IsPermutation, length_permutation}
 use Rattle.vx_value.specs.Value.{is_null}
@@ -17,6 +17,8 @@ use Rattle.vx_plan.specs.declared.node.JoinKind.{JoinKind}
 use Rattle.vx_plan.specs.declared.node.JoinKind.TheVariants.{Inner, Left, Right, Full, Semi, Anti}
 use Rattle.vx_meaning.specs.Groups.{key_cmp}
 use Rattle.vx_meaning.specs.Joins.{On, Build, matches, nulls, partners, pairs, if_none, given, probed, is_alone, alone, unmatched, joined}
+use Rattle.vx_meaning.specs.Parts.{Part, all_probe, all_build, joined_in_parts, Apart, AreApart, LiesIn, AreDealtFrom}
+use Rattle.vx_meaning.proofs.RowLemmas.{All-cons}
 use Rattle.vx_meaning.proofs.Shuffles.{shuffled, filter-shuffled}
 use Rattle.vx_meaning.proofs.Keyed.{equal_of}
 use Rattle.vx_meaning.proofs.GroupLemmas.{key_tied}
@@ -99,10 +101,6 @@ joined-shuffled kind on p q b c left right =
     IsPermutation-append (probed kind on p b) (probed kind on q c) (unmatched kind on p b) (unmatched kind on q c) (probed-shuffled kind on p q b c left right) (unmatched-shuffled kind on p q b c left right)
 
 -- ---- parts between which nothing matches
-
--- no left row of the one matches a right row of the other
-abbrev pub Apart : On → List Row → List Build → Type 0
-Apart on probe build = All (λ left. All (λ (b : Build). matches on left b.row ≡ false) build) probe
 
 no-partners : (on : On) (left : Row) (b : List Build) → All (λ (x : Build). matches on left x.row ≡ false) b → partners on b left ≡ []
 no-partners on left [] h = refl
@@ -187,10 +185,6 @@ joined-parts kind on p q b c pc qb =
 
 -- ---- dealt by a function of the key
 
--- a row without a null in its key lies in this part
-abbrev pub LiesIn : (Row → ℕ) → List ℕ → ℕ → Row → Type 0
-LiesIn deal keys part row = list_any is_null (key_values keys row) ≡ false → deal (key_values keys row) ≡ part
-
 both-true : (a b : Bool) → (not a && b) ≡ true → (a ≡ false) × (b ≡ true)
 both-true true b h = absurd (true≢false (sym h))
 both-true false b h = (refl, h)
@@ -209,8 +203,69 @@ no-match deal on x y apart left right here there = by_case (matches on left righ
     let same : key_values on.left_keys left ≡ key_values on.right_keys right = eq-Equal (key_values on.left_keys left) (key_values on.right_keys right) parts.1 in
     apart (sym (here parts.0) ∙ ap deal same ∙ there (subst (λ key. list_any is_null key ≡ false) same parts.0)))
 
--- parts that are dealt by a function of the key are apart, with rows that have a null in their key in any part
+-- rows of two different parts
 pub Apart-by_key : (deal : Row → ℕ) (on : On) (x y : ℕ) → x ≢ y → (probe : List Row) (build : List Build) → All (LiesIn deal on.left_keys x) probe → All (λ (b : Build). LiesIn deal on.right_keys y b.row) build
     → Apart on probe build
 Apart-by_key deal on x y apart probe build left right k d within j e inside =
     no-match deal on x y apart (get_or probe k d) (get_or build j e).row (left k d within) (right j e inside)
+
+-- ---- any number of parts
+
+Apart-append_build : (on : On) (probe : List Row) (b c : List Build) → Apart on probe b → Apart on probe c → Apart on probe (b ++ c)
+Apart-append_build on probe b c left right k d within = All-append (λ (x : Build). matches on (get_or probe k d) x.row ≡ false) b c (left k d within) (right k d within)
+
+Apart-append_probe : (on : On) (p q : List Row) (build : List Build) → Apart on p build → Apart on q build → Apart on (p ++ q) build
+Apart-append_probe on p q build left right = All-append (λ left. All (λ (b : Build). matches on left b.row ≡ false) build) p q left right
+
+Apart-nothing : (on : On) (probe : List Row) → Apart on probe []
+Apart-nothing on probe k d within j e inside = absurd (omega arith)
+
+-- a part that is apart from each of some parts is apart from all their rows
+Apart-all : (on : On) (part : Part) (parts : List Part) → All (λ other. Apart on part.probe other.build × Apart on other.probe part.build) parts → Apart on part.probe (all_build parts) × Apart on (all_probe parts) part.build
+Apart-all on part [] h = (Apart-nothing on part.probe, λ k d within. absurd (omega arith))
+Apart-all on part (other ∷ parts) h =
+    let here = first-is (λ other. Apart on part.probe other.build × Apart on other.probe part.build) other parts h in
+    let rest = Apart-all on part parts (later-are (λ other. Apart on part.probe other.build × Apart on other.probe part.build) other parts h) in
+    (Apart-append_build on part.probe other.build (all_build parts) here.0 rest.0, Apart-append_probe on other.probe (all_probe parts) part.build here.1 rest.1)
+
+joined-nothing : (kind : JoinKind) (on : On) → joined kind on [] [] ≡ []
+joined-nothing Inner on = refl
+joined-nothing Left on = refl
+joined-nothing Right on = refl
+joined-nothing Full on = refl
+joined-nothing Semi on = refl
+joined-nothing Anti on = refl
+
+-- the joined rows of all parts together are those of the parts put together
+pub joined-apart : (kind : JoinKind) (on : On) (parts : List Part) → AreApart on parts → IsPermutation (joined kind on (all_probe parts) (all_build parts)) (joined_in_parts kind on parts)
+joined-apart kind on [] h = subst (λ rows. IsPermutation rows []) (sym (joined-nothing kind on)) (IsPermutation-refl [])
+joined-apart kind on (part ∷ parts) h =
+    let apart = Apart-all on part parts h.0 in
+    IsPermutation-trans (joined kind on (part.probe ++ all_probe parts) (part.build ++ all_build parts)) (joined kind on part.probe part.build ++ joined kind on (all_probe parts) (all_build parts))
+    (joined kind on part.probe part.build ++ joined_in_parts kind on parts)
+    (joined-parts kind on part.probe (all_probe parts) part.build (all_build parts) apart.0 apart.1)
+    (IsPermutation-append_right (joined kind on part.probe part.build) (joined kind on (all_probe parts) (all_build parts)) (joined_in_parts kind on parts) (joined-apart kind on parts h.1))
+
+-- a part of a lower number is apart from those that follow
+before-apart : (deal : Row → ℕ) (on : On) (x number : ℕ) (part : Part) (parts : List Part) → x < number → All (LiesIn deal on.left_keys x) part.probe → All (λ (b : Build). LiesIn deal on.right_keys x b.row) part.build
+    → AreDealtFrom number deal on parts → All (λ other. Apart on part.probe other.build × Apart on other.probe part.build) parts
+before-apart deal on x number part [] below left right h = λ k d within. absurd (omega arith)
+before-apart deal on x number part (other ∷ parts) below left right h =
+    All-cons (λ other. Apart on part.probe other.build × Apart on other.probe part.build) other parts (
+      Apart-by_key deal on x number (λ same. absurd (omega arith)) part.probe other.build left h.1,
+      Apart-by_key deal on number x (λ same. absurd (omega arith)) other.probe part.build h.0 right,
+    )
+    (before-apart deal on x (number + 1) part parts (omega arith) left right h.2)
+
+-- parts that are dealt by a function of the key are apart, with rows that have a null in their key in any part
+pub AreApart-by_key : (deal : Row → ℕ) (on : On) (number : ℕ) (parts : List Part) → AreDealtFrom number deal on parts → AreApart on parts
+AreApart-by_key deal on number [] h = h
+AreApart-by_key deal on number (part ∷ parts) h = (before-apart deal on number (number + 1) part parts (omega arith) h.0 h.1 h.2, AreApart-by_key deal on (number + 1) parts h.2)
+
+-- The joined rows of a whole are those of its parts put together, where its rows are dealt by a function of the key.
+pub joined-dealt : (kind : JoinKind) (on : On) (deal : Row → ℕ) (probe : List Row) (build : List Build) (parts : List Part) → IsPermutation probe (all_probe parts) → IsPermutation build (all_build parts) → AreDealtFrom 0 deal on parts
+    → IsPermutation (joined kind on probe build) (joined_in_parts kind on parts)
+joined-dealt kind on deal probe build parts left right dealt =
+    IsPermutation-trans (joined kind on probe build) (joined kind on (all_probe parts) (all_build parts)) (joined_in_parts kind on parts)
+    (joined-shuffled kind on probe (all_probe parts) build (all_build parts) left right)
+    (joined-apart kind on parts (AreApart-by_key deal on 0 parts dealt))

@@ -13,3 +13,5 @@ pub mod Picks
 pub mod JoinWords
 pub mod Settled
 pub mod Groupings
+pub mod Over
+pub mod Parts

@@ -4,6 +4,7 @@ ghost use Rattle.vx_plan.specs.Limits as limits;
 ghost use Rattle.vx_meaning.specs.Answer.{Answers};
 ghost use Rattle.vx_meaning.specs.Faulty.{Faulty, IsFirstFault};
 ghost use Rattle.vx_meaning.specs.Stopped.{IfFault, IfAnswerRows, IfAnswerFault};
+ghost use Rattle.vx_meaning.specs.Over.{GivesOver, StopsOver};
 
 use crate::grouping::{Grouping, over_aggregation};
 use crate::joining::Joining;
@@ -36,29 +37,11 @@ fn answer(alloc: Global, node: &Node) -> Result<Vec<Row>, Stop>
     ensures rows { IfOk result (λ rows. Answers (plans.tree node.now) rows.items) }
     ensures stop { IfErr result (IfFault (IsFirstFault (plans.tree node.now))) }
 {
-    let id = node.id;
     match &node.body {
         Body::Values { rows, .. } => Ok(copied(alloc, rows.as_slice())?),
-        Body::Filter { predicate, source } => {
-            over_filter(alloc, id, predicate, answer(alloc, source.get())?)
-        }
-        Body::Project { exprs, source } => {
-            over_project(alloc, id, exprs.as_slice(), answer(alloc, source.get())?)
-        }
-        Body::Aggregation {
-            step,
-            keys,
-            aggregates,
-            source,
-        } => {
-            let of = Grouping {
-                id,
-                step: *step,
-                keys: keys.as_slice(),
-                aggregates: aggregates.as_slice(),
-            };
-            over_aggregation(alloc, &of, answer(alloc, source.get())?)
-        }
+        Body::Filter { source, .. } => over_source(alloc, node, answer(alloc, source.get())?),
+        Body::Project { source, .. } => over_source(alloc, node, answer(alloc, source.get())?),
+        Body::Aggregation { source, .. } => over_source(alloc, node, answer(alloc, source.get())?),
         Body::Join {
             kind,
             left_keys,
@@ -77,20 +60,40 @@ fn answer(alloc: Global, node: &Node) -> Result<Vec<Row>, Stop>
             };
             Ok(joining.over(alloc, probe.as_slice(), build.as_slice())?)
         }
-        Body::Order { keys, source } => {
-            Ok(over_order(keys.as_slice(), answer(alloc, source.get())?)?)
-        }
-        Body::TopN {
-            count,
+        Body::Order { source, .. } => over_source(alloc, node, answer(alloc, source.get())?),
+        Body::TopN { source, .. } => over_source(alloc, node, answer(alloc, source.get())?),
+        Body::Limit { source, .. } => over_source(alloc, node, answer(alloc, source.get())?),
+        Body::Exchange { source, .. } => over_source(alloc, node, answer(alloc, source.get())?),
+    }
+}
+
+/// What a node with one source makes of its source's rows. An exchange leaves them as they are.
+fn over_source(alloc: Global, node: &Node, below: Vec<Row>) -> Result<Vec<Row>, Stop>
+    ensures rows { IfOk result (λ rows. GivesOver (plans.tree node.now) below.items rows.items) }
+    ensures stop { IfErr result (IfFault (StopsOver (plans.tree node.now) below.items)) }
+{
+    let id = node.id;
+    match &node.body {
+        Body::Filter { predicate, .. } => over_filter(alloc, id, predicate, below),
+        Body::Project { exprs, .. } => over_project(alloc, id, exprs.as_slice(), below),
+        Body::Aggregation {
+            step,
             keys,
-            source,
-        } => { Ok(over_top(*count, keys.as_slice(), answer(alloc, source.get())?)?) }
-        Body::Limit {
-            offset,
-            count,
-            source,
-        } => { Ok(over_limit(*offset, *count, answer(alloc, source.get())?)?) }
-        Body::Exchange { source, .. } => answer(alloc, source.get()),
+            aggregates,
+            ..
+        } => {
+            let of = Grouping {
+                id,
+                step: *step,
+                keys: keys.as_slice(),
+                aggregates: aggregates.as_slice(),
+            };
+            over_aggregation(alloc, &of, below)
+        }
+        Body::Order { keys, .. } => Ok(over_order(keys.as_slice(), below)?),
+        Body::TopN { count, keys, .. } => Ok(over_top(*count, keys.as_slice(), below)?),
+        Body::Limit { offset, count, .. } => Ok(over_limit(*offset, *count, below)?),
+        _ => Ok(below),
     }
 }
 

@@ -11,6 +11,7 @@ use std::thread::Threads;
 /// | word | file |
 /// |---|---|
 /// | `text` | these bytes |
+/// | `stray` | a string with a byte that is no UTF-8 |
 /// | `lists` | a list in a list, so many levels deep |
 /// | `root` | the plan with this root |
 /// | `ints` | a plan of one column of ints with these rows |
@@ -26,6 +27,9 @@ fn file(alloc: Global, line: &str) -> Result<Vec<u8>, AllocError> {
     let count = rest.parse::<usize>().unwrap_or(1);
     if word == "text" {
         return rest.as_bytes().to_vec(alloc);
+    }
+    if word == "stray" {
+        return b"\"\xff\"".to_vec(alloc);
     }
     if word == "lists" {
         return lists(alloc, count)?.as_bytes().to_vec(alloc);
@@ -182,6 +186,7 @@ fn a_values_node_is_refused_with_its_place(rt: HostRuntime) -> Result<(), Fail> 
     let alloc = rt.alloc();
     for (line, wanted) in [
         ("text ", "P1\n"),
+        ("stray", "P1\n"),
         ("lists 127", "P2 /\n"),
         ("lists 128", "P1\n"),
         ("ints [[1],[2]", "P1\n"),
@@ -198,14 +203,6 @@ fn a_values_node_is_refused_with_its_place(rt: HostRuntime) -> Result<(), Fail> 
         let got = refusal(&rt, alloc, line)?;
         assert_eq!(rt; got.as_str(), wanted, "of {line}");
     }
-    Ok(())
-}
-
-#[test]
-fn bytes_that_are_no_text_are_refused(rt: HostRuntime) -> Result<(), Fail> {
-    let alloc = rt.alloc();
-    let got = run_on(&rt, alloc, b"\"\xff\"".to_vec(alloc)?, &NONE)?;
-    assert_eq!(rt; got.as_str(), "3||vxrun: p.json: P1\n");
     Ok(())
 }
 

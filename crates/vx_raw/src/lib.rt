@@ -1,0 +1,15 @@
+//! Chunks of memory by number, for rows, texts and tables.
+//!
+//! A `Region` is a list of chunks of bytes. `grow` adds one of zeros, `shed` frees one and leaves it empty
+//! at its number, and numbers start anew when nothing is held. `specs/Region.antt` says what each call
+//! does to the list. The memory itself stands behind the private `Chunk`.
+#![tactic(auto)]
+
+mod chunk;
+mod place;
+mod region;
+#[cfg(test)]
+mod tests;
+
+pub use place::Place;
+pub use region::Region;

@@ -1,0 +1,4 @@
+pub mod TextLemmas
+pub mod SelectionLemmas
+pub mod FormLemmas
+pub mod ViewLemmas

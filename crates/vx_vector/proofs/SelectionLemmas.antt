@@ -1,0 +1,34 @@
+-- The first so many numbers are a selection.
+use Rattle.std.proofs.Common.{◌≡◌, ◌∙◌, ℕ, zero, suc, ◌+◌, ◌<◌, ◌&&◌, List, [], ◌∷◌, ◌++◌, refl, ap, add-one, arith, IsTrue, true, get_or, length}
+use Rattle.std.specs.Prelude.{nat_lt}
+use Rattle.std.specs.List.{range_with_len}
+use Rattle.std.proofs.lemmas.List.FromFn.{get_or-range_with_len, length-range_with_len}
+use Rattle.vx_vector.specs.Selection.{ascends, IsSelection}
+
+range_suc : (a n j : ℕ) → a + n ≡ j → range_with_len a (suc n) ≡ range_with_len a n ++ j ∷ []
+range_suc a zero j e =
+    let same : a ≡ j = omega arith in
+    ap (λ (k : ℕ). k ∷ []) same
+range_suc a (suc n) j e = ap (λ l. a ∷ l) (range_suc (a + 1) n j (omega arith))
+
+pub range_more : (a n j : ℕ) → a + n ≡ j → range_with_len a (n + 1) ≡ range_with_len a n ++ j ∷ []
+range_more a n j e = rw add-one (range_suc a n j e)
+
+less_than_next : (a : ℕ) → nat_lt a (a + 1) ≡ true
+less_than_next a = grind arith
+
+ascends-range : (a n : ℕ) → ascends (range_with_len a n) ≡ true
+ascends-range a zero = refl
+ascends-range a (suc zero) = refl
+ascends-range a (suc (suc n)) = rw (less_than_next a) (ascends-range (a + 1) (suc n))
+
+first_at : (k n : ℕ) → k < n → get_or (range_with_len 0 n) k 0 ≡ k
+first_at k n h =
+    let none : 0 + k ≡ k = omega arith in
+    get_or-range_with_len 0 n k 0 h ∙ none
+
+pub range_is_selection : (n : ℕ) (places : List ℕ) → places ≡ range_with_len 0 n → IsSelection true places
+range_is_selection n places e = rw e (record {
+  up = ascends-range 0 n;
+  each = λ _ row h. first_at row n (omega (arith, length-range_with_len 0 n));
+})

@@ -1,0 +1,11 @@
+pub mod Batch
+pub mod Column
+pub mod Decoding
+pub mod Form
+pub mod Index
+pub mod Lane
+pub mod Lanes
+pub mod Place
+pub mod Selection
+pub mod Settles
+pub mod Store

@@ -1,0 +1,23 @@
+//! Vectors: the columns that queries work on, a batch of rows at a time.
+//!
+//! A vector is a list of values of one kind, whether it stores each value, one value for all rows, or places
+//! in a list of values. `specs/Lanes.antt` says what typed buffers with marks stand for, `specs/Form.antt`
+//! what the encodings stand for, and `specs/Selection.antt` what a selection is.
+#![tactic(auto)]
+
+mod batch;
+mod form;
+mod gather;
+mod index;
+mod lanes;
+mod marks;
+mod selection;
+mod store;
+mod texts;
+mod vector;
+
+pub use batch::Batch;
+pub use lanes::{Bools, FINE, Ints, Lanes, NULL};
+pub use selection::Selection;
+pub use texts::Texts;
+pub use vector::{Decoded, Vector};

@@ -1,0 +1,152 @@
+ghost use Rattle.std.specs.Prelude.{◌≡◌, ◌<◌, [], ◌∷◌, ◌++◌, length, map, All, OnOk, OnErr, IfOk};
+ghost use Rattle.vx_value.specs.Value.{IsText};
+ghost use Rattle.vx_vector.specs.Place.{settled_place};
+ghost use Rattle.vx_vector.specs.Index.{IsIn, item_or};
+ghost use Rattle.vx_vector.specs.Lane.{text_row, text_at, settled_row};
+
+use crate::marks::settled;
+use std::alloc::{AllocError, Global};
+use std::marker::Model;
+
+/// Where a row's text lies in the buffer, and the row's mark.
+#[derive(Clone, Copy, Debug)]
+struct Place {
+    start: u32,
+    end: u32,
+    mark: u8,
+}
+
+/// Texts with a mark each, in one buffer.
+#[derive(Debug, Drop)]
+pub struct Texts {
+    bytes: Vec<u8>,
+    places: Vec<Place>,
+}
+
+impl Model for Texts {
+    ghost use Rattle.std.specs.Prelude.{List, All, map};
+    ghost use Rattle.vx_vector.specs.Lane.{TextRow};
+    ghost use Rattle.vx_vector.specs.Place.{row_of, IsPlaced};
+
+    ghost Value = { List TextRow };
+
+    ghost view = { λ t. map (row_of t.bytes.items) t.places.items };
+
+    ghost invariant = { λ t. All (IsPlaced t.bytes.items) t.places.items };
+}
+
+impl Texts {
+    pub fn new(alloc: Global) -> Texts
+        ensures { result ≡ [] }
+    {
+        Texts {
+            bytes: Vec::new(alloc),
+            places: Vec::new(alloc),
+        }
+    }
+
+    #[inline(always)]
+    pub fn len(&self) -> usize
+        ensures { result ≡ length self.now }
+    {
+        self.places.len()
+    }
+
+    /// The mark of a row.
+    #[inline(always)]
+    pub fn mark(&self, row: usize) -> u8
+        requires { row < length self.now }
+        ensures { result ≡ (text_at self.now row).mark }
+    {
+        self.places[row].mark
+    }
+
+    /// The text that stands at a row, whatever its mark.
+    #[inline(always)]
+    pub fn get(&self, row: usize) -> &[u8]
+        requires { row < length self.now }
+        ensures text { result.now ≡ (text_at self.now row).text }
+        ensures lawful { IsText result.now }
+    {
+        let place = self.places[row];
+        &self.bytes[place.start as usize..place.end as usize]
+    }
+
+    /// Adds a row. More than 4 GiB of texts count as out of memory.
+    pub fn push(&mut self, mark: u8, text: &[u8]) -> Result<(), AllocError>
+        requires { IsText text.now }
+        ensures ok { OnOk result (self.new ≡ self.old ++ text_row mark text.now ∷ []) }
+        ensures err { OnErr result (self.new ≡ self.old) }
+    {
+        let (start, end) = append(&mut self.bytes, text)?;
+        self.places.push(Place { start, end, mark })?;
+        Ok(())
+    }
+
+    /// The same rows, in memory of their own.
+    pub fn copy(&self, alloc: Global) -> Result<Texts, AllocError>
+        ensures { IfOk result (λ t. t ≡ self.now) }
+    {
+        Ok(Texts {
+            bytes: Vec::from_slice(alloc, self.bytes.as_slice())?,
+            places: Vec::from_slice(alloc, self.places.as_slice())?,
+        })
+    }
+
+    /// The rows at these places, in their order.
+    pub fn gather(&self, alloc: Global, places: &[u32]) -> Result<Texts, AllocError>
+        requires { All (λ p. p < length self.now) places.now }
+        ensures { IfOk result (λ t. t ≡ map (text_at self.now) places.now) }
+    {
+        let mut picked = Texts::new(alloc);
+        for place in places {
+            let row = *place as usize;
+            picked.push(self.mark(row), self.get(row))?;
+        }
+        Ok(picked)
+    }
+
+    /// The rows at these places, and nulls where there is no place.
+    pub fn spread(&self, alloc: Global, index: &[Option<u32>]) -> Result<Texts, AllocError>
+        requires { All (IsIn (length self.now)) index.now }
+        ensures { IfOk result (λ t. t ≡ map (item_or self.now (text_row 1 [])) index.now) }
+    {
+        let mut picked = Texts::new(alloc);
+        for place in index {
+            match *place {
+                Some(row) => picked.push(self.mark(row as usize), self.get(row as usize))?,
+                None => picked.push(1, &[])?,
+            }
+        }
+        Ok(picked)
+    }
+
+    /// Turns each mark but that of a fine row into that of a null.
+    pub fn settle(&mut self)
+        ensures { self.new ≡ map settled_row self.old }
+    {
+        settle_places(&mut self.places);
+    }
+}
+
+#[tactic(auto, using(std::proofs::lemmas::List::Edits::map_over_more))]
+fn settle_places(places: &mut Vec<Place>)
+    ensures { places.new.items ≡ map settled_place places.old.items }
+{
+    for place in places.iter_mut() {
+        place.mark = settled(place.mark);
+    }
+}
+
+/// Where the bytes lie once they are appended.
+fn append(bytes: &mut Vec<u8>, more: &[u8]) -> Result<(u32, u32), AllocError>
+    ensures ok { OnOk result (bytes.new.items ≡ bytes.old.items ++ more.now) }
+    ensures at { IfOk result (λ at. (at.0 ≡ length bytes.old.items) × (at.1 ≡ length bytes.new.items)) }
+    ensures err { OnErr result (bytes.new.items ≡ bytes.old.items) }
+{
+    let start = u32::try_from(bytes.len()).map_err(|_| AllocError)?;
+    let len = u32::try_from(more.len()).map_err(|_| AllocError)?;
+    let end = start.checked_add(len).ok_or(AllocError)?;
+    bytes.extend_from_slice(more)?;
+    Ok((start, end))
+}

@@ -56,6 +56,12 @@ told_whole m more place None (Some y) t = absurd t
 told_whole m more place (Some x) None t = absurd t
 told_whole m more place (Some x) (Some y) t = whole m more place x y t
 
+-- a store that got all of a page got the front of it
+pub grown_front : (now before : SealedView) (after : Option Files) (m : ℕ) (more wanted : List ℕ) (place : ℕ) → before ≡ now → more ≡ wanted
+    → Told (AppendsAt m more place) before.store.files after → Told (AppendsFront m wanted) now.store.files after
+grown_front now before after m more wanted place was is told =
+    subst₂ (λ (v : SealedView) (bytes : List ℕ). Told (AppendsFront m bytes) v.store.files after) was is (told_whole m more place before.store.files after told)
+
 -- the bytes that were appended stand at the place that was answered
 pub stands_at : (m : ℕ) (more : List ℕ) (place : ℕ) (b a : Option Files) → Told (AppendsAt m more place) b a → Tells (HasBytes m place (length more) more) a
 stands_at m more place None None t = tt

@@ -1,7 +1,6 @@
 ghost use Rattle.std.specs.Prelude.{◌≡◌, ◌<◌, ◌≤◌, ◌^◌, ◌⊎◌, List, All, length, IfSome, IfOk, OnOk, OnErr, IsErrOf};
 ghost use Rattle.vx_base.specs.Causes.{HasCause, Rose};
-ghost use Rattle.vx_store.specs.Folder.{faults_after, faults_with};
-ghost use Rattle.vx_store.specs.Store.{IsThere, Stays, Creates, AppendsSome, Removes, MayRemove, KeepsThere, StaysUnfailing, FailsOnly};
+ghost use Rattle.vx_store.specs.Store.{IsThere, Stays, Creates, AppendsSome, Removes, MayRemove, KeepsThere, StaysUnfailing, FailsOnly, faults_after, faults_with};
 ghost use Rattle.vx_page.specs.Page.{Cells, HasShape, body, page, IsPageOf};
 ghost use Rattle.vx_page.specs.Sealed.{fresh, pages_of, Agrees, HasPage, IsPage, KeepsPages, appended_after, IsUntold};
 
@@ -84,7 +83,7 @@ impl<S: Store + Drop> Sealed<S> {
         ensures appended { self.new.appended ≡ self.old.appended }
         ensures count { self.new.faults ≡ faults_after self.old.faults result }
         ensures cause { HasCause (λ e. e ≡ StoreError.Failed) self.old.faults self.new.faults result }
-        ensures inner { IsErrOf result StoreError.Failed → Rose self.old.store.faults self.new.store.faults }
+        ensures inner { self.new.store.faults ≡ faults_after self.old.store.faults result }
         ensures unfailing { StaysUnfailing self.old.store self.new.store }
         ensures failed { FailsOnly self.old.store result ⊥ }
     {
@@ -108,6 +107,7 @@ impl<S: Store + Drop> Sealed<S> {
         requires body { length (body rows.now) < 2 ^ 32 }
         ensures ok { IfOk result (λ number. HasPage self.new file.0 number shape.now rows.now) }
         ensures number { IfOk result (λ number. number ≡ pages_of self.old.kept file.0) }
+        ensures grows { AppendsSome self.old.store.files self.new.store.files file.0 (page rows.now) }
 
         // What stays as it was, and when it fails.
         ensures there { KeepsThere (λ _. ⊥) self.old.store.files self.new.store.files }
@@ -115,7 +115,7 @@ impl<S: Store + Drop> Sealed<S> {
         ensures appended { self.new.appended ≡ appended_after self.old.appended (length (page rows.now)) result }
         ensures count { self.new.faults ≡ faults_after self.old.faults result }
         ensures cause { HasCause (λ e. e ≡ StoreError.Failed) self.old.faults self.new.faults result }
-        ensures inner { IsErrOf result StoreError.Failed → Rose self.old.store.faults self.new.store.faults }
+        ensures inner { self.new.store.faults ≡ faults_after self.old.store.faults result }
         ensures unfailing { StaysUnfailing self.old.store self.new.store }
         ensures failed { FailsOnly self.old.store result ⊥ }
     {
@@ -157,6 +157,7 @@ impl<S: Store + Drop> Sealed<S> {
         ensures count { self.new.faults ≡ faults_after self.old.faults result }
         ensures cause { HasCause (λ e. e ≡ StoreError.Failed) self.old.faults self.new.faults result }
         ensures inner { IsErrOf result StoreError.Failed → Rose self.old.store.faults self.new.store.faults ⊎ IsUntold self.old.store.files }
+        ensures fine { (IsErrOf result StoreError.Failed → ⊥) → self.new.store.faults ≡ self.old.store.faults }
         ensures unfailing { StaysUnfailing self.old.store self.new.store }
         ensures failed { FailsOnly self.old.store result (IsUntold self.old.store.files) }
     {
@@ -182,7 +183,7 @@ impl<S: Store + Drop> Sealed<S> {
         ensures appended { self.new.appended ≡ self.old.appended }
         ensures count { self.new.faults ≡ faults_after self.old.faults result }
         ensures cause { HasCause (λ e. e ≡ StoreError.Failed) self.old.faults self.new.faults result }
-        ensures inner { IsErrOf result StoreError.Failed → Rose self.old.store.faults self.new.store.faults }
+        ensures inner { self.new.store.faults ≡ faults_after self.old.store.faults result }
         ensures unfailing { StaysUnfailing self.old.store self.new.store }
         ensures failed { FailsOnly self.old.store result ⊥ }
     {

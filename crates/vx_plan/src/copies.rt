@@ -1,10 +1,11 @@
 ghost use Rattle.std.specs.Prelude.{◌≡◌, IfOk};
 
-use crate::node::{Body, Node, Plan};
+use crate::aggregate::{Aggregate, Step};
+use crate::node::{Body, JoinKind, Node, Plan};
 use sqlite_items::{Boxed, Items};
 use std::alloc::{AllocError, Global};
 use vx_expr::Expr;
-use vx_value::Row;
+use vx_value::{Kind, Row, SortKey};
 
 impl Plan {
     /// The same plan, with memory of its own.
@@ -41,11 +42,7 @@ impl Body {
                 kinds,
                 rows,
                 parallel,
-            } => Ok(Body::Values {
-                kinds: Items::from_slice(alloc, kinds.as_slice())?,
-                rows: copy_rows(alloc, rows.as_slice())?,
-                parallel: *parallel,
-            }),
+            } => values_copy(alloc, kinds.as_slice(), rows.as_slice(), *parallel),
             Body::Filter { predicate, source } => Ok(Body::Filter {
                 predicate: predicate.copy(alloc)?,
                 source: Boxed::new(alloc, source.get().copy(alloc)?)?,
@@ -59,25 +56,20 @@ impl Body {
                 keys,
                 aggregates,
                 source,
-            } => Ok(Body::Aggregation {
-                step: *step,
-                keys: Items::from_slice(alloc, keys.as_slice())?,
-                aggregates: Items::from_slice(alloc, aggregates.as_slice())?,
-                source: Boxed::new(alloc, source.get().copy(alloc)?)?,
-            }),
+            } => {
+                let source = source.get().copy(alloc)?;
+                aggregation_copy(alloc, *step, keys, aggregates, source)
+            }
             Body::Join {
                 kind,
                 left_keys,
                 right_keys,
                 left,
                 right,
-            } => Ok(Body::Join {
-                kind: *kind,
-                left_keys: Items::from_slice(alloc, left_keys.as_slice())?,
-                right_keys: Items::from_slice(alloc, right_keys.as_slice())?,
-                left: Boxed::new(alloc, left.get().copy(alloc)?)?,
-                right: Boxed::new(alloc, right.get().copy(alloc)?)?,
-            }),
+            } => {
+                let (left, right) = (left.get().copy(alloc)?, right.get().copy(alloc)?);
+                join_copy(alloc, *kind, left_keys, right_keys, left, right)
+            }
             Body::Order { keys, source } => Ok(Body::Order {
                 keys: Items::from_slice(alloc, keys.as_slice())?,
                 source: Boxed::new(alloc, source.get().copy(alloc)?)?,
@@ -86,20 +78,12 @@ impl Body {
                 count,
                 keys,
                 source,
-            } => Ok(Body::TopN {
-                count: *count,
-                keys: Items::from_slice(alloc, keys.as_slice())?,
-                source: Boxed::new(alloc, source.get().copy(alloc)?)?,
-            }),
+            } => top_n_copy(alloc, *count, keys.as_slice(), source.get().copy(alloc)?),
             Body::Limit {
                 offset,
                 count,
                 source,
-            } => Ok(Body::Limit {
-                offset: *offset,
-                count: *count,
-                source: Boxed::new(alloc, source.get().copy(alloc)?)?,
-            }),
+            } => limit_copy(alloc, *offset, *count, source.get().copy(alloc)?),
             Body::Exchange { kind, keys, source } => Ok(Body::Exchange {
                 kind: *kind,
                 keys: Items::from_slice(alloc, keys.as_slice())?,
@@ -107,6 +91,77 @@ impl Body {
             }),
         }
     }
+}
+
+fn values_copy(
+    alloc: Global,
+    kinds: &[Kind],
+    rows: &[Row],
+    is_parallel: bool,
+) -> Result<Body, AllocError>
+    ensures { IfOk result (λ copy. copy ≡ Body.Values kinds.now rows.now is_parallel) }
+{
+    Ok(Body::Values {
+        kinds: Items::from_slice(alloc, kinds)?,
+        rows: copy_rows(alloc, rows)?,
+        parallel: is_parallel,
+    })
+}
+
+fn aggregation_copy(
+    alloc: Global,
+    step: Step,
+    keys: &Items<u32>,
+    aggregates: &Items<Aggregate>,
+    source: Node,
+) -> Result<Body, AllocError>
+    ensures { IfOk result (λ copy. copy ≡ Body.Aggregation step keys.now aggregates.now source) }
+{
+    Ok(Body::Aggregation {
+        step,
+        keys: Items::from_slice(alloc, keys.as_slice())?,
+        aggregates: Items::from_slice(alloc, aggregates.as_slice())?,
+        source: Boxed::new(alloc, source)?,
+    })
+}
+
+fn join_copy(
+    alloc: Global,
+    kind: JoinKind,
+    left_keys: &Items<u32>,
+    right_keys: &Items<u32>,
+    left: Node,
+    right: Node,
+) -> Result<Body, AllocError>
+    ensures { IfOk result (λ copy. copy ≡ Body.Join kind left_keys.now right_keys.now left right) }
+{
+    Ok(Body::Join {
+        kind,
+        left_keys: Items::from_slice(alloc, left_keys.as_slice())?,
+        right_keys: Items::from_slice(alloc, right_keys.as_slice())?,
+        left: Boxed::new(alloc, left)?,
+        right: Boxed::new(alloc, right)?,
+    })
+}
+
+fn top_n_copy(alloc: Global, count: u64, keys: &[SortKey], source: Node) -> Result<Body, AllocError>
+    ensures { IfOk result (λ copy. copy ≡ Body.TopN count keys.now source) }
+{
+    Ok(Body::TopN {
+        count,
+        keys: Items::from_slice(alloc, keys)?,
+        source: Boxed::new(alloc, source)?,
+    })
+}
+
+fn limit_copy(alloc: Global, offset: u64, count: u64, source: Node) -> Result<Body, AllocError>
+    ensures { IfOk result (λ copy. copy ≡ Body.Limit offset count source) }
+{
+    Ok(Body::Limit {
+        offset,
+        count,
+        source: Boxed::new(alloc, source)?,
+    })
 }
 
 fn copy_rows(alloc: Global, rows: &[Row]) -> Result<Items<Row>, AllocError>

@@ -36,16 +36,14 @@ pub fn node_kinds(node: &Node) -> Result<Kinds, Refusal>
             aggregates,
             source,
         } => {
-            let kinds = node_kinds(source.get())?;
-            named(
-                node.id,
-                grouped_kinds(
-                    *step,
-                    keys.as_slice(),
-                    aggregates.as_slice(),
-                    kinds.as_slice(),
-                ),
-            )
+            let below = node_kinds(source.get())?;
+            let kinds = grouped_kinds(
+                *step,
+                keys.as_slice(),
+                aggregates.as_slice(),
+                below.as_slice(),
+            );
+            named(node.id, kinds)
         }
         Body::Join {
             kind,
@@ -56,15 +54,10 @@ pub fn node_kinds(node: &Node) -> Result<Kinds, Refusal>
         } => {
             let left = node_kinds(left.get())?;
             let right = node_kinds(right.get())?;
+            let keys = (left_keys.as_slice(), right_keys.as_slice());
             named(
                 node.id,
-                joined_kinds(
-                    *kind,
-                    left_keys.as_slice(),
-                    right_keys.as_slice(),
-                    left,
-                    right.as_slice(),
-                ),
+                joined_kinds(*kind, keys.0, keys.1, left, right.as_slice()),
             )
         }
         Body::Order { keys, source } => {

@@ -1,10 +1,11 @@
 -- What each call does to the files of a store. Where a store tells its files it does so after each call, and
 -- where it doesn't, nothing is said of them.
-use Rattle.std.specs.Prelude.{◌≡◌, ◌⊎◌, ◌≤◌, ◌<◌, ℕ, ◌+◌, List, [], ◌++◌, length, take, drop, ⊤, Option, Some, None, true, Result, IsErrOf}
+use Rattle.std.specs.Prelude.{◌≡◌, ◌⊎◌, ◌≤◌, ◌<◌, ℕ, ◌+◌, List, [], ◌++◌, length, take, drop, ⊤, Option, Some, None, true, Result, Ok, Err, IsErrOf}
 use Rattle.vx_store.specs.Files.{Files, bytes_at, SetsOnly}
+use Rattle.vx_store.specs.Script.{counted}
 use Rattle.vx_store.specs.Views.{StoreView}
 use Rattle.vx_store.specs.declared.error.StoreError.{StoreError}
-use Rattle.vx_store.specs.declared.error.StoreError.TheVariants.{Failed}
+use Rattle.vx_store.specs.declared.error.StoreError.TheVariants.{Failed, NoMemory}
 
 -- a relation of two tellings: of told files it is the given one, and a telling never begins or ends
 abbrev pub Told : (Files → Files → Type 0) → Option Files → Option Files → Type 0
@@ -92,6 +93,15 @@ MayRemove before after n = Told (λ old new. Same old new ⊎ SetsOnly old new n
 -- each file that was there is there, but for those that `But` names
 abbrev pub KeepsThere : (ℕ → Type 0) → Option Files → Option Files → Type 0
 KeepsThere But before after = (n : ℕ) → IsThere before n → ¬ But n → IsThere after n
+
+-- a failure adds a fault, and want of memory none
+abbrev pub faults_with : ℕ → StoreError → ℕ
+faults_with faults Failed = counted faults
+faults_with faults NoMemory = faults
+
+abbrev pub faults_after : {T : Type 0} → ℕ → Result T StoreError → ℕ
+faults_after faults (Ok value) = faults
+faults_after faults (Err e) = faults_with faults e
 
 -- a store that tells that no call is still to fail tells so afterwards
 abbrev pub StaysUnfailing : StoreView → StoreView → Type 0

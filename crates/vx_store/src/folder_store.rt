@@ -1,7 +1,7 @@
 ghost use Rattle.std.specs.Prelude.{◌≡◌, ◌≤◌, ◌+◌, IfOk, OnOk, OnErr, length};
 ghost use Rattle.vx_base.specs.Causes.{HasCause, Rose};
-ghost use Rattle.vx_store.specs.Folder.{folder_view, faults_after, faults_with};
-ghost use Rattle.vx_store.specs.Store.{IsThere, Stays, Creates, Appends, AppendsSome, Reads, IsPastEnd, Removes, MayRemove, KeepsThere, StaysUnfailing, FailsOnly};
+ghost use Rattle.vx_store.specs.Folder.{folder_view};
+ghost use Rattle.vx_store.specs.Store.{IsThere, Stays, Creates, Appends, AppendsSome, Reads, IsPastEnd, Removes, MayRemove, KeepsThere, StaysUnfailing, FailsOnly, faults_after, faults_with};
 
 use crate::error::StoreError;
 use crate::real_files::{Part, add_bytes, add_next, read_bytes, take_file};
@@ -51,11 +51,11 @@ impl<F: Files> Store for FolderStore<F> {
         ensures there { KeepsThere (λ _. ⊥) (folder_view self.old.faults).files (folder_view self.new.faults).files }
         ensures ready { IfOk result (λ file. IsThere (folder_view self.new.faults).files file.0) }
         ensures cause { HasCause (λ e. e ≡ StoreError.Failed) (folder_view self.old.faults).faults (folder_view self.new.faults).faults result }
+        ensures faults { (folder_view self.new.faults).faults ≡ faults_after (folder_view self.old.faults).faults result }
         ensures unfailing { StaysUnfailing (folder_view self.old.faults) (folder_view self.new.faults) }
         ensures failed { FailsOnly (folder_view self.old.faults) result ⊥ }
 
-        // A fault is counted at a failure alone, and no number is given twice.
-        ensures faults { self.new.faults ≡ faults_after self.old.faults result }
+        // No number is given twice.
         ensures number { IfOk result (λ file. (file.0 ≡ self.old.next) × (self.new.next ≡ self.old.next + 1)) }
     {
         let number = self.next;
@@ -74,10 +74,9 @@ impl<F: Files> Store for FolderStore<F> {
         ensures err { OnErr result (AppendsSome (folder_view self.old.faults).files (folder_view self.new.faults).files file.0 bytes.now) }
         ensures there { KeepsThere (λ _. ⊥) (folder_view self.old.faults).files (folder_view self.new.faults).files }
         ensures cause { HasCause (λ e. e ≡ StoreError.Failed) (folder_view self.old.faults).faults (folder_view self.new.faults).faults result }
+        ensures faults { (folder_view self.new.faults).faults ≡ faults_after (folder_view self.old.faults).faults result }
         ensures unfailing { StaysUnfailing (folder_view self.old.faults) (folder_view self.new.faults) }
         ensures failed { FailsOnly (folder_view self.old.faults) result ⊥ }
-
-        ensures faults { self.new.faults ≡ faults_after self.old.faults result }
     {
         match add_bytes(self.alloc, &self.files, self.job, file.0, bytes) {
             Ok(at) => Ok(at),
@@ -97,10 +96,10 @@ impl<F: Files> Store for FolderStore<F> {
         ensures files { Stays (folder_view self.old.faults).files (folder_view self.new.faults).files }
         ensures there { KeepsThere (λ _. ⊥) (folder_view self.old.faults).files (folder_view self.new.faults).files }
         ensures cause { HasCause (λ e. e ≡ StoreError.Failed) (folder_view self.old.faults).faults (folder_view self.new.faults).faults result }
+        ensures faults { (folder_view self.new.faults).faults ≡ faults_after (folder_view self.old.faults).faults result }
         ensures unfailing { StaysUnfailing (folder_view self.old.faults) (folder_view self.new.faults) }
         ensures failed { FailsOnly (folder_view self.old.faults) result (IsPastEnd (folder_view self.old.faults).files file.0 (at + len)) }
 
-        ensures faults { self.new.faults ≡ faults_after self.old.faults result }
         ensures count { OnOk result (length into.new.items ≡ len) }
     {
         let part = Part {
@@ -121,10 +120,9 @@ impl<F: Files> Store for FolderStore<F> {
         ensures err { OnErr result (MayRemove (folder_view self.old.faults).files (folder_view self.new.faults).files file.0) }
         ensures there { KeepsThere (λ n. n ≡ file.0) (folder_view self.old.faults).files (folder_view self.new.faults).files }
         ensures cause { HasCause (λ e. e ≡ StoreError.Failed) (folder_view self.old.faults).faults (folder_view self.new.faults).faults result }
+        ensures faults { (folder_view self.new.faults).faults ≡ faults_after (folder_view self.old.faults).faults result }
         ensures unfailing { StaysUnfailing (folder_view self.old.faults) (folder_view self.new.faults) }
         ensures failed { FailsOnly (folder_view self.old.faults) result ⊥ }
-
-        ensures faults { self.new.faults ≡ faults_after self.old.faults result }
     {
         match take_file(self.alloc, &self.files, self.job, file.0) {
             Ok(()) => Ok(()),

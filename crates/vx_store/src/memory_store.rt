@@ -2,7 +2,7 @@ ghost use Rattle.std.specs.Prelude.{◌≡◌, ◌+◌, ◌↔◌, ◌||◌, ◌
 ghost use Rattle.vx_base.specs.Causes.{HasCause};
 ghost use Rattle.vx_store.specs.Files.{bytes_at};
 ghost use Rattle.vx_store.specs.Memory.{files_of, store_view, new_store, next_fails, after_call, after_create, with_added, after_append, after_remove, is_past_end};
-ghost use Rattle.vx_store.specs.Store.{HasFile, AppendsAt, IsThere, Stays, Creates, Appends, AppendsSome, Reads, IsPastEnd, Removes, MayRemove, KeepsThere, StaysUnfailing, FailsOnly};
+ghost use Rattle.vx_store.specs.Store.{HasFile, AppendsAt, IsThere, Stays, Creates, Appends, AppendsSome, Reads, IsPastEnd, Removes, MayRemove, KeepsThere, StaysUnfailing, FailsOnly, faults_after};
 
 use crate::error::StoreError;
 use crate::script::Script;
@@ -56,6 +56,7 @@ impl Store for MemoryStore {
         ensures there { KeepsThere (λ _. ⊥) (store_view self.old).files (store_view self.new).files }
         ensures ready { IfOk result (λ file. IsThere (store_view self.new).files file.0) }
         ensures cause { HasCause (λ e. e ≡ StoreError.Failed) (store_view self.old).faults (store_view self.new).faults result }
+        ensures faults { (store_view self.new).faults ≡ faults_after (store_view self.old).faults result }
         ensures unfailing { StaysUnfailing (store_view self.old) (store_view self.new) }
         ensures failed { FailsOnly (store_view self.old) result ⊥ }
 
@@ -80,6 +81,7 @@ impl Store for MemoryStore {
         ensures err { OnErr result (AppendsSome (store_view self.old).files (store_view self.new).files file.0 bytes.now) }
         ensures there { KeepsThere (λ _. ⊥) (store_view self.old).files (store_view self.new).files }
         ensures cause { HasCause (λ e. e ≡ StoreError.Failed) (store_view self.old).faults (store_view self.new).faults result }
+        ensures faults { (store_view self.new).faults ≡ faults_after (store_view self.old).faults result }
         ensures unfailing { StaysUnfailing (store_view self.old) (store_view self.new) }
         ensures failed { FailsOnly (store_view self.old) result ⊥ }
 
@@ -106,6 +108,7 @@ impl Store for MemoryStore {
         ensures files { Stays (store_view self.old).files (store_view self.new).files }
         ensures there { KeepsThere (λ _. ⊥) (store_view self.old).files (store_view self.new).files }
         ensures cause { HasCause (λ e. e ≡ StoreError.Failed) (store_view self.old).faults (store_view self.new).faults result }
+        ensures faults { (store_view self.new).faults ≡ faults_after (store_view self.old).faults result }
         ensures unfailing { StaysUnfailing (store_view self.old) (store_view self.new) }
         ensures failed { FailsOnly (store_view self.old) result (IsPastEnd (store_view self.old).files file.0 (at + len)) }
 
@@ -132,6 +135,7 @@ impl Store for MemoryStore {
         ensures err { OnErr result (MayRemove (store_view self.old).files (store_view self.new).files file.0) }
         ensures there { KeepsThere (λ n. n ≡ file.0) (store_view self.old).files (store_view self.new).files }
         ensures cause { HasCause (λ e. e ≡ StoreError.Failed) (store_view self.old).faults (store_view self.new).faults result }
+        ensures faults { (store_view self.new).faults ≡ faults_after (store_view self.old).faults result }
         ensures unfailing { StaysUnfailing (store_view self.old) (store_view self.new) }
         ensures failed { FailsOnly (store_view self.old) result ⊥ }
 

@@ -1,7 +1,7 @@
 ghost use Rattle.std.specs.Prelude.{◌≡◌, ◌+◌, IfOk, OnOk, OnErr, IsErrOf};
 ghost use Rattle.vx_base.specs.Causes.{HasCause};
 ghost use Rattle.vx_store.specs.Views.{StoreView};
-ghost use Rattle.vx_store.specs.Store.{IsThere, Stays, Creates, Appends, AppendsSome, Reads, IsPastEnd, Removes, MayRemove, KeepsThere, StaysUnfailing, FailsOnly};
+ghost use Rattle.vx_store.specs.Store.{IsThere, Stays, Creates, Appends, AppendsSome, Reads, IsPastEnd, Removes, MayRemove, KeepsThere, StaysUnfailing, FailsOnly, faults_after};
 
 use crate::error::StoreError;
 
@@ -11,7 +11,7 @@ pub struct FileNo(pub u64);
 
 /// Files that a query spills to.
 ///
-/// A call answers `Failed` only where the count of faults rose in it. What is said of the files holds where
+/// The count of faults rises exactly where a call answers `Failed`. What is said of the files holds where
 /// the store tells them.
 pub trait Store {
     /// The files, the faults, and whether a call is still to fail.
@@ -28,6 +28,7 @@ pub trait Store {
         ensures there { KeepsThere (λ _. ⊥) (state self.old).files (state self.new).files }
         ensures ready { IfOk result (λ file. IsThere (state self.new).files file.0) }
         ensures cause { HasCause (λ e. e ≡ StoreError.Failed) (state self.old).faults (state self.new).faults result }
+        ensures faults { (state self.new).faults ≡ faults_after (state self.old).faults result }
         ensures unfailing { StaysUnfailing (state self.old) (state self.new) }
         ensures failed { FailsOnly (state self.old) result ⊥ };
 
@@ -39,6 +40,7 @@ pub trait Store {
         ensures err { OnErr result (AppendsSome (state self.old).files (state self.new).files file.0 bytes.now) }
         ensures there { KeepsThere (λ _. ⊥) (state self.old).files (state self.new).files }
         ensures cause { HasCause (λ e. e ≡ StoreError.Failed) (state self.old).faults (state self.new).faults result }
+        ensures faults { (state self.new).faults ≡ faults_after (state self.old).faults result }
         ensures unfailing { StaysUnfailing (state self.old) (state self.new) }
         ensures failed { FailsOnly (state self.old) result ⊥ };
 
@@ -56,6 +58,7 @@ pub trait Store {
         ensures files { Stays (state self.old).files (state self.new).files }
         ensures there { KeepsThere (λ _. ⊥) (state self.old).files (state self.new).files }
         ensures cause { HasCause (λ e. e ≡ StoreError.Failed) (state self.old).faults (state self.new).faults result }
+        ensures faults { (state self.new).faults ≡ faults_after (state self.old).faults result }
         ensures unfailing { StaysUnfailing (state self.old) (state self.new) }
         ensures failed { FailsOnly (state self.old) result (IsPastEnd (state self.old).files file.0 (at + len)) };
 
@@ -66,6 +69,7 @@ pub trait Store {
         ensures err { OnErr result (MayRemove (state self.old).files (state self.new).files file.0) }
         ensures there { KeepsThere (λ n. n ≡ file.0) (state self.old).files (state self.new).files }
         ensures cause { HasCause (λ e. e ≡ StoreError.Failed) (state self.old).faults (state self.new).faults result }
+        ensures faults { (state self.new).faults ≡ faults_after (state self.old).faults result }
         ensures unfailing { StaysUnfailing (state self.old) (state self.new) }
         ensures failed { FailsOnly (state self.old) result ⊥ };
 }

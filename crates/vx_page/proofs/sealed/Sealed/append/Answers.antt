@@ -1,5 +1,6 @@
-use Rattle.std.proofs.Common.{refl}
-use Rattle.vx_page.proofs.Kept.{keeps_all, new_page, told_whole, seals_grow, seals_stay}
+use Rattle.std.proofs.Common.{refl, ◌∙◌}
+use Rattle.vx_page.specs.Page.{page}
+use Rattle.vx_page.proofs.Kept.{keeps_all, grown_front, new_page, told_whole, seals_grow, seals_stay}
 use Rattle.vx_page.proofs.sealed.Sealed.append.Goals as goal
 
 pub returns-in-Err-clause-keeps : goal.returns-in-Err-clause-keeps
@@ -18,3 +19,11 @@ pub returns-clause-keeps : goal.returns-clause-keeps
 returns-clause-keeps g c =
     keeps_all _ _ _ _ c.args.file.0 c.as_slice-written.result.now c.self.view_is refl (told_whole c.args.file.0 c.as_slice-written.result.now c.in-Ok.at _ _ c.in-Ok.ensures.ok)
     (seals_grow _ _ c.args.file.0 _ c.in_ok-number.ensures.ok c.in_ok-number.ensures.others)
+
+pub returns-in_err-number-clause-grows : goal.returns-in_err-number-clause-grows
+returns-in_err-number-clause-grows g c =
+    grown_front _ _ _ c.args.file.0 c.as_slice-written.result.now (page c.args.rows.now) c.in-Ok.at c.self.view_is (c.as_slice-written.ensures.value ∙ c.in_ok-bytes.ensures.ok) c.in-Ok.ensures.ok
+
+pub returns-clause-grows : goal.returns-clause-grows
+returns-clause-grows g c =
+    grown_front _ _ _ c.args.file.0 c.as_slice-written.result.now (page c.args.rows.now) c.in-Ok.at c.self.view_is (c.as_slice-written.ensures.value ∙ c.in_ok-bytes.ensures.ok) c.in-Ok.ensures.ok

@@ -2,3 +2,5 @@ pub mod TextLemmas
 pub mod SelectionLemmas
 pub mod FormLemmas
 pub mod ViewLemmas
+pub mod LaneLemmas
+pub mod MarkLemmas

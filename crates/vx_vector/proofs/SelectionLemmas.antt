@@ -1,5 +1,5 @@
 -- The first so many numbers are a selection.
-use Rattle.std.proofs.Common.{◌≡◌, ◌∙◌, ℕ, zero, suc, ◌+◌, ◌<◌, ◌&&◌, List, [], ◌∷◌, ◌++◌, refl, ap, add-one, arith, IsTrue, true, get_or, length}
+use Rattle.std.proofs.Common.{◌≡◌, ◌∙◌, ℕ, zero, suc, ◌+◌, ◌<◌, List, [], ◌∷◌, ◌++◌, refl, ap, ap₂, sym, add-one, arith, true, get_or, length}
 use Rattle.std.specs.Prelude.{nat_lt}
 use Rattle.std.specs.List.{range_with_len}
 use Rattle.std.proofs.lemmas.List.FromFn.{get_or-range_with_len, length-range_with_len}
@@ -30,5 +30,16 @@ first_at k n h =
 pub range_is_selection : (n : ℕ) (places : List ℕ) → places ≡ range_with_len 0 n → IsSelection true places
 range_is_selection n places e = rw e (record {
   up = ascends-range 0 n;
-  each = λ _ row h. first_at row n (omega (arith, length-range_with_len 0 n));
+  each = (λ _. ap (range_with_len 0) (sym (length-range_with_len 0 n)), λ _. refl);
 })
+
+pub at_own_place : (places : List ℕ) → places ≡ range_with_len 0 (length places) → (k : ℕ) → k < length places → get_or places k 0 ≡ k
+at_own_place places e k h = ap (λ l. get_or l k 0) e ∙ first_at k (length places) h
+
+pub ranges_joined : (a n m j s : ℕ) → a + n ≡ j → n + m ≡ s → range_with_len a s ≡ range_with_len a n ++ range_with_len j m
+ranges_joined a zero m j s e f =
+    let same : a ≡ j = omega arith in
+    let all : s ≡ m = omega arith in
+    ap₂ (λ (k t : ℕ). range_with_len k t) same all
+ranges_joined a (suc n) m j zero e f = absurd (omega arith)
+ranges_joined a (suc n) m j (suc s) e f = ap (λ l. a ∷ l) (ranges_joined (a + 1) n m j s (omega arith) (omega arith))

@@ -1,7 +1,6 @@
 -- What a vector's callers see, by the encoding that stands behind it.
 use Rattle.std.proofs.Common.{◌≡◌, ◌∙◌, ℕ, ◌<◌, Bool, true, false, if◌then◌else◌, List, map, length, get_or, All, Option, refl, ap, ap₂, sym, subst, arith, replicate}
 use Rattle.std.specs.Prelude.{nat_eq}
-use Rattle.std.specs.List.{range_with_len}
 use Rattle.std.proofs.lemmas.List.{get_or-replicate, length-replicate}
 use Rattle.std.proofs.lemmas.List.FromFn.{length-map-range_with_len}
 use Rattle.vx_value.specs.declared.value.Kind.{Kind}

@@ -1,5 +1,5 @@
 -- Places in a list, or none.
-use Rattle.std.specs.Prelude.{ℕ, ◌<◌, Bool, true, false, if◌then◌else◌, List, get_or, Option, Some, None, ⊤}
+use Rattle.std.specs.Prelude.{ℕ, ◌<◌, Bool, true, false, List, get_or, Option, Some, None, ⊤}
 
 -- the place is one of so many
 abbrev pub IsIn : ℕ → Option ℕ → Type 0

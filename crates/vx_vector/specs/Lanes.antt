@@ -1,8 +1,7 @@
 -- What typed buffers with a mark a row stand for.
-use Rattle.std.specs.Prelude.{◌≡◌, ℕ, ◌<◌, List, [], ◌∷◌, length, get_or, Option, Some, None, true, false, pos}
+use Rattle.std.specs.Prelude.{◌≡◌, ℕ, ◌<◌, List, length, get_or, Option, Some, None, false, pos}
 use Rattle.vx_value.specs.declared.value.Kind.{Kind}
 use Rattle.vx_value.specs.declared.value.Kind.TheVariants as kind
-use Rattle.vx_value.specs.declared.value.Value.{Value}
 use Rattle.vx_value.specs.declared.value.Value.TheVariants as value
 use Rattle.vx_vector.specs.Lane.{Lane, TextRow, lane, lane_of_text, text_at, absent}
 use Rattle.vx_vector.specs.declared.lanes.Bools.{Bools}

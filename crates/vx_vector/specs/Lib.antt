@@ -5,6 +5,7 @@ pub mod Form
 pub mod Index
 pub mod Lane
 pub mod Lanes
+pub mod Marks
 pub mod Place
 pub mod Selection
 pub mod Settles

@@ -1,5 +1,6 @@
 -- A selection is the list of its places, which ascend.
-use Rattle.std.specs.Prelude.{◌≡◌, ℕ, ◌<◌, Bool, true, ◌&&◌, nat_lt, List, [], ◌∷◌, length, get_or, IsTrue}
+use Rattle.std.specs.Prelude.{◌≡◌, ℕ, ◌↔◌, Bool, true, ◌&&◌, nat_lt, List, [], ◌∷◌, length, IsTrue}
+use Rattle.std.specs.List.{range_with_len}
 
 -- whether each place is less than the next
 abbrev pub ascends : List ℕ → Bool
@@ -7,7 +8,7 @@ ascends [] = true
 ascends (a ∷ []) = true
 ascends (a ∷ b ∷ more) = nat_lt a b && ascends (b ∷ more)
 
--- a whole selection has each row at its own place
+-- whether it is known that each place is its own number
 pub record IsSelection (whole : Bool) (places : List ℕ) : Type 0 where
   pub up : IsTrue (ascends places)
-  pub each : IsTrue whole → (k : ℕ) → k < length places → get_or places k 0 ≡ k
+  pub each : IsTrue whole ↔ (places ≡ range_with_len 0 (length places))

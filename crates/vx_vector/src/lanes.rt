@@ -5,7 +5,7 @@ ghost use Rattle.vx_vector.specs.Column.{FitsKind};
 ghost use Rattle.vx_vector.specs.Lane.{value_of, settled, blank};
 
 use crate::gather::{gathered, gathered_or};
-use crate::marks::settle;
+use crate::marks::settle_marks;
 use crate::texts::Texts;
 use std::alloc::{AllocError, Global};
 use vx_value::{Kind, ValueRef};
@@ -13,8 +13,11 @@ use vx_value::{Kind, ValueRef};
 /// The mark of a row that has its value.
 pub const FINE: u8 = 0;
 
-/// The mark of a null. Higher marks are free for a caller's own use, and a vector reads them as nulls.
+/// The mark of a null.
 pub const NULL: u8 = 1;
+
+/// The least mark that is free for a caller's own faults. A vector reads these as nulls.
+pub const FIRST_FAULT: u8 = 2;
 
 /// Bools with a mark each. Under any mark but `FINE` the value says nothing.
 #[derive(Debug, Drop)]
@@ -151,8 +154,8 @@ impl Lanes {
         ensures { AreLanes (kind_of self.old) (rows_of self.old) (λ k. settled (lane_at self.old k)) self.new }
     {
         match self {
-            Lanes::Bools(bools) => settle(&mut bools.marks),
-            Lanes::Ints(ints) => settle(&mut ints.marks),
+            Lanes::Bools(bools) => settle_marks(&mut bools.marks),
+            Lanes::Ints(ints) => settle_marks(&mut ints.marks),
             Lanes::Texts(texts) => texts.settle(),
         }
     }

@@ -9,15 +9,24 @@ mod batch;
 mod form;
 mod gather;
 mod index;
+#[cfg(test)]
+mod kernel_tests;
 mod lanes;
 mod marks;
+mod places;
+mod scan;
 mod selection;
 mod store;
+#[cfg(test)]
+mod tests;
 mod texts;
 mod vector;
 
 pub use batch::Batch;
-pub use lanes::{Bools, FINE, Ints, Lanes, NULL};
+pub use lanes::{Bools, FINE, FIRST_FAULT, Ints, Lanes, NULL};
+pub use marks::{combine_marks, invert_marks, settle_marks};
+pub use places::are_first_places;
+pub use scan::{are_fine, count_mark, has_fault};
 pub use selection::Selection;
 pub use texts::Texts;
 pub use vector::{Decoded, Vector};

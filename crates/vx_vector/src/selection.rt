@@ -1,7 +1,8 @@
-ghost use Rattle.std.specs.Prelude.{◌≡◌, ℕ, ◌<◌, length, get_or, IsTrue, IfOk};
+ghost use Rattle.std.specs.Prelude.{◌≡◌, ◌↔◌, ℕ, ◌<◌, length, get_or, IsTrue, IfOk};
 ghost use Rattle.std.specs.List.{range_with_len};
 ghost use Rattle.vx_vector.specs.Selection.{ascends};
 
+use crate::places::are_first_places;
 use std::alloc::{AllocError, Global};
 use std::marker::Model;
 
@@ -33,7 +34,7 @@ impl Selection {
         ensures { IfOk result (λ s. s ≡ places.now) }
     {
         Ok(Selection {
-            whole: is_identity(places),
+            whole: are_first_places(places),
             places: Vec::from_slice(alloc, places)?,
         })
     }
@@ -61,22 +62,12 @@ impl Selection {
         self.places.as_slice()
     }
 
-    /// Whether each place is known to be its own number. It may be false of a selection that is.
+    /// Whether each place is its own number, as in the first so many rows.
     #[inline(always)]
-    pub(crate) fn is_whole(&self) -> bool
-        ensures { IsTrue result → (k : ℕ) → k < length self.now → get_or self.now k 0 ≡ k }
+    pub fn is_whole(&self) -> bool
+        ensures whole { IsTrue result ↔ (self.now ≡ range_with_len 0 (length self.now)) }
+        ensures each { IsTrue result → (k : ℕ) → k < length self.now → get_or self.now k 0 ≡ k }
     {
         self.whole
     }
-}
-
-fn is_identity(places: &[u32]) -> bool
-    ensures { IsTrue result → (k : ℕ) → k < length places.now → get_or places.now k 0 ≡ k }
-{
-    for row in 0..places.len() {
-        if places[row] as usize != row {
-            return false;
-        }
-    }
-    true
 }

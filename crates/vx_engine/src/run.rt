@@ -14,7 +14,7 @@ use crate::stop::{BAD_WORDS, DONE, FAULTED, Stop};
 use crate::words::file_name;
 use std::alloc::Global;
 use vx_host::{Host, SinkError, To, give_all};
-use vx_meaning::slow_answer;
+use vx_meaning::slow_answer_of;
 
 /// How a run ended: its status, and how the write of its line to err went, if there was one.
 #[derive(Drop)]
@@ -104,7 +104,7 @@ fn answer<H: Host>(alloc: Global, name: &str, host: &mut H) -> Result<Printed, S
     ensures errors { H.sink host.new Errors ≡ H.sink host.old Errors }
 {
     let plan = load(alloc, name, host)?;
-    let answer = slow_answer(alloc, &plan)?;
+    let answer = slow_answer_of(alloc, plan)?;
     print(alloc, name, &answer, host)
 }
 

@@ -1,4 +1,4 @@
-ghost use Rattle.std.specs.Prelude.{◌≡◌};
+ghost use Rattle.std.specs.Prelude.{◌≡◌, false, IsTrue};
 ghost use Rattle.serde_json.specs.View.{view, items_view, members_view};
 ghost use Rattle.vx_json.specs.Plans as spec;
 
@@ -27,11 +27,25 @@ fn has_long_item(values: &[Json]) -> bool
     ensures { result ≡ spec.has_long_item (items_view values.now) }
 {
     for value in values {
-        if has_long(value) {
-            return true;
+        if !is_plain(value) {
+            if has_long(value) {
+                return true;
+            }
         }
     }
     false
+}
+
+/// Whether it is no string and has nothing in it, as most values of a plan file are.
+fn is_plain(value: &Json) -> bool
+    ensures { IsTrue result → spec.has_long (view value.now) ≡ false }
+{
+    match value {
+        Json::Null => true,
+        Json::Bool(_) => true,
+        Json::Number(_) => true,
+        _ => false,
+    }
 }
 
 #[cycle(long)]

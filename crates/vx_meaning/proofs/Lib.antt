@@ -7,6 +7,7 @@ pub mod Keyed
 pub mod SumLemmas
 pub mod JoinLemmas
 pub mod LineLaws
+pub mod FilterLemmas
 pub mod GroupLemmas
 pub mod StopLemmas
 pub mod JoinLaws

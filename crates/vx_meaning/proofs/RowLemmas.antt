@@ -1,6 +1,6 @@
 -- A loop over rows, one row after another, and the first row that faults.
-use Rattle.std.proofs.Common.{◌≡◌, suc, Bool, true, false, cond, List, [], ◌∷◌, ◌++◌, length, take, All, Some, false, refl, sym, ap, ◌∙◌, subst, arith, append_assoc, map}
-use Rattle.std.proofs.lemmas.List.{append-nil}
+use Rattle.std.proofs.Common.{◌≡◌, suc, Bool, true, false, cond, List, [], ◌∷◌, ◌++◌, length, take, reverse, All, Some, false, refl, sym, ap, ◌∙◌, subst, arith, append_assoc, map}
+use Rattle.std.proofs.lemmas.List.{append-nil, reverse-append}
 use Rattle.std.specs.Prelude.{filter, slice_get}
 use Rattle.vx_value.specs.Row.{Row}
 use Rattle.vx_expr.specs.declared.expression.Expr.{Expr}
@@ -91,3 +91,14 @@ verdict-fault predicate row verdict code h is = subst (IsVerdict predicate row) 
 pub filter-end : {X : Type 0} (test : X → Bool) (all start rest : List X) (done : List X) → start ≡ all → length rest ≡ 0 → done ++ filter test rest ≡ filter test start → done ≡ filter test all
 filter-end test all start [] done begins none so_far = sym (append-nil done) ∙ so_far ∙ ap (filter test) begins
 filter-end test all start (x ∷ rest) done begins none so_far = absurd (omega arith)
+
+-- ---- items that come off the end of one list and go to the end of another
+
+pub turned-more : {X : Type 0} (all rest later done next : List X) (x : X) → rest ++ reverse done ≡ all → rest ≡ later ++ x ∷ [] → next ≡ done ++ x ∷ [] → later ++ reverse next ≡ all
+turned-more all rest later done next x so_far is pushed =
+    ap (λ back. later ++ reverse back) pushed ∙ ap (λ back. later ++ back) (reverse-append done (x ∷ [])) ∙ sym (append_assoc later (x ∷ []) (reverse done)) ∙ sym (ap (λ front. front ++ reverse done) is) ∙ so_far
+
+pub turned-all : {X : Type 0} (all rest done : List X) → rest ++ reverse done ≡ all → rest ≡ [] → reverse done ≡ all
+turned-all all rest done so_far is = sym (ap (λ front. front ++ reverse done) is) ∙ so_far
+
+pub ruleset turning = (turned-more, turned-all)

@@ -13,5 +13,4 @@ pub mod Picks
 pub mod JoinWords
 pub mod Settled
 pub mod Groupings
-pub mod Over
 pub mod Parts

@@ -4,12 +4,11 @@ ghost use Rattle.vx_plan.specs.Limits as limits;
 ghost use Rattle.vx_meaning.specs.Answer.{Answers};
 ghost use Rattle.vx_meaning.specs.Faulty.{Faulty, IsFirstFault};
 ghost use Rattle.vx_meaning.specs.Stopped.{IfFault, IfAnswerRows, IfAnswerFault};
-ghost use Rattle.vx_meaning.specs.Over.{GivesOver, StopsOver};
 
 use crate::grouping::{Grouping, over_aggregation};
 use crate::joining::Joining;
 use crate::outcome::{SlowAnswer, Stop};
-use crate::rowwise::{copied, over_filter, over_limit, over_project};
+use crate::rowwise::{moved, over_filter, over_limit, over_project};
 use crate::sorting::{over_order, over_top};
 use sqlite_items::Items;
 use std::alloc::{AllocError, Global};
@@ -26,22 +25,69 @@ pub fn slow_answer(alloc: Global, plan: &Plan) -> Result<SlowAnswer, AllocError>
     // All nodes before this one have given an answer.
     ensures first { IfOk result (IfAnswerFault (IsFirstFault (plans.tree plan.now.root))) }
 {
-    match answer(alloc, &plan.root) {
-        Ok(rows) => Ok(SlowAnswer::Rows(Items::from_vec(rows))),
+    slow_answer_of(alloc, plan.copy(alloc)?)
+}
+
+/// The same of a plan that nobody needs any more: its rows are moved into the answer, not copied.
+pub fn slow_answer_of(alloc: Global, plan: Plan) -> Result<SlowAnswer, AllocError>
+    ensures rows { IfOk result (IfAnswerRows (Answers (plans.tree plan.root))) }
+    ensures fault { IfOk result (IfAnswerFault (Faulty (plans.tree plan.root))) }
+
+    // All nodes before this one have given an answer.
+    ensures first { IfOk result (IfAnswerFault (IsFirstFault (plans.tree plan.root))) }
+{
+    let Plan { root } = plan;
+    match answer_items(alloc, root) {
+        Ok(rows) => Ok(SlowAnswer::Rows(rows)),
         Err(Stop::Fault { node, row, code }) => Ok(SlowAnswer::Fault { node, row, code }),
         Err(Stop::NoMemory) => Err(AllocError),
     }
 }
 
-fn answer(alloc: Global, node: &Node) -> Result<Vec<Row>, Stop>
-    ensures rows { IfOk result (λ rows. Answers (plans.tree node.now) rows.items) }
-    ensures stop { IfErr result (IfFault (IsFirstFault (plans.tree node.now))) }
+/// The answer of a plan's root. The rows of a values node stay where they are.
+fn answer_items(alloc: Global, node: Node) -> Result<Items<Row>, Stop>
+    ensures rows { IfOk result (λ rows. Answers (plans.tree node) rows) }
+    ensures stop { IfErr result (IfFault (IsFirstFault (plans.tree node))) }
 {
-    match &node.body {
-        Body::Values { rows, .. } => Ok(copied(alloc, rows.as_slice())?),
-        Body::Filter { source, .. } => over_source(alloc, node, answer(alloc, source.get())?),
-        Body::Project { source, .. } => over_source(alloc, node, answer(alloc, source.get())?),
-        Body::Aggregation { source, .. } => over_source(alloc, node, answer(alloc, source.get())?),
+    let Node { id, body } = node;
+    match body {
+        Body::Values { rows, .. } => Ok(rows),
+        body => Ok(Items::from_vec(answer(alloc, Node { id, body })?)),
+    }
+}
+
+fn answer(alloc: Global, node: Node) -> Result<Vec<Row>, Stop>
+    ensures rows { IfOk result (λ rows. Answers (plans.tree node) rows.items) }
+    ensures stop { IfErr result (IfFault (IsFirstFault (plans.tree node))) }
+{
+    let Node { id, body } = node;
+    match body {
+        Body::Values { rows, .. } => Ok(moved(alloc, rows)?),
+        Body::Filter { predicate, source } => {
+            over_filter(alloc, id, &predicate, answer(alloc, source.into_inner())?)
+        }
+        Body::Project { exprs, source } => {
+            over_project(
+                alloc,
+                id,
+                exprs.as_slice(),
+                answer(alloc, source.into_inner())?,
+            )
+        }
+        Body::Aggregation {
+            step,
+            keys,
+            aggregates,
+            source,
+        } => {
+            let of = Grouping {
+                id,
+                step,
+                keys: keys.as_slice(),
+                aggregates: aggregates.as_slice(),
+            };
+            over_aggregation(alloc, &of, answer(alloc, source.into_inner())?)
+        }
         Body::Join {
             kind,
             left_keys,
@@ -49,51 +95,33 @@ fn answer(alloc: Global, node: &Node) -> Result<Vec<Row>, Stop>
             left,
             right,
         } => {
-            let probe = answer(alloc, left.get())?;
-            let build = answer(alloc, right.get())?;
+            let left_columns = columns(left.get())?;
+            let right_columns = columns(right.get())?;
+            let probe = answer(alloc, left.into_inner())?;
+            let build = answer(alloc, right.into_inner())?;
             let joining = Joining {
-                kind: *kind,
+                kind,
                 left_keys: left_keys.as_slice(),
                 right_keys: right_keys.as_slice(),
-                left_columns: columns(left.get())?,
-                right_columns: columns(right.get())?,
+                left_columns,
+                right_columns,
             };
             Ok(joining.over(alloc, probe.as_slice(), build.as_slice())?)
         }
-        Body::Order { source, .. } => over_source(alloc, node, answer(alloc, source.get())?),
-        Body::TopN { source, .. } => over_source(alloc, node, answer(alloc, source.get())?),
-        Body::Limit { source, .. } => over_source(alloc, node, answer(alloc, source.get())?),
-        Body::Exchange { source, .. } => over_source(alloc, node, answer(alloc, source.get())?),
-    }
-}
-
-/// What a node with one source makes of its source's rows. An exchange leaves them as they are.
-fn over_source(alloc: Global, node: &Node, below: Vec<Row>) -> Result<Vec<Row>, Stop>
-    ensures rows { IfOk result (λ rows. GivesOver (plans.tree node.now) below.items rows.items) }
-    ensures stop { IfErr result (IfFault (StopsOver (plans.tree node.now) below.items)) }
-{
-    let id = node.id;
-    match &node.body {
-        Body::Filter { predicate, .. } => over_filter(alloc, id, predicate, below),
-        Body::Project { exprs, .. } => over_project(alloc, id, exprs.as_slice(), below),
-        Body::Aggregation {
-            step,
-            keys,
-            aggregates,
-            ..
-        } => {
-            let of = Grouping {
-                id,
-                step: *step,
-                keys: keys.as_slice(),
-                aggregates: aggregates.as_slice(),
-            };
-            over_aggregation(alloc, &of, below)
+        Body::Order { keys, source } => {
+            Ok(over_order(keys.as_slice(), answer(alloc, source.into_inner())?)?)
         }
-        Body::Order { keys, .. } => Ok(over_order(keys.as_slice(), below)?),
-        Body::TopN { count, keys, .. } => Ok(over_top(*count, keys.as_slice(), below)?),
-        Body::Limit { offset, count, .. } => Ok(over_limit(*offset, *count, below)?),
-        _ => Ok(below),
+        Body::TopN {
+            count,
+            keys,
+            source,
+        } => Ok(over_top(count, keys.as_slice(), answer(alloc, source.into_inner())?)?),
+        Body::Limit {
+            offset,
+            count,
+            source,
+        } => Ok(over_limit(offset, count, answer(alloc, source.into_inner())?)?),
+        Body::Exchange { source, .. } => answer(alloc, source.into_inner()),
     }
 }
 

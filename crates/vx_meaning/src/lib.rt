@@ -19,5 +19,5 @@ mod summing;
 #[cfg(test)]
 mod tests;
 
-pub use answers::slow_answer;
+pub use answers::{slow_answer, slow_answer_of};
 pub use outcome::SlowAnswer;

@@ -5,20 +5,24 @@ ghost use Rattle.vx_meaning.specs.Stopped.{IfFault, Exactly, StopsAmong};
 ghost use Rattle.vx_meaning.specs.Images.{IsImage, IsVerdict};
 
 use crate::outcome::Stop;
+use sqlite_items::Items;
 use std::alloc::{AllocError, Global};
 use std::cmp;
 use vx_expr::{Expr, Fault, Got, eval_row};
 use vx_value::{Row, Value};
 
-/// The same rows, in memory of their own.
-pub fn copied(alloc: Global, rows: &[Row]) -> Result<Vec<Row>, AllocError>
-    ensures { IfOk result (λ copies. copies.items ≡ rows.now) }
+/// The same rows, each moved: they come off the end, and are then turned round.
+#[tactic(auto, using(crate::proofs::RowLemmas::turning))]
+pub fn moved(alloc: Global, rows: Items<Row>) -> Result<Vec<Row>, AllocError>
+    ensures { IfOk result (λ moved. moved.items ≡ rows) }
 {
-    let mut copies = Vec::with_capacity(alloc, rows.len())?;
-    for row in rows {
-        copies.push(row.copy(alloc)?)?;
+    let mut rest = rows;
+    let mut moved = Vec::with_capacity(alloc, rest.len())?;
+    while let Some(row) = rest.pop() {
+        moved.push(row)?;
     }
-    Ok(copies)
+    moved.reverse();
+    Ok(moved)
 }
 
 /// Adds a row at the end.

@@ -10,6 +10,6 @@ returns-then-places-row c = (λ h. absurd (false≢true h), λ e. absurd (omega 
 pub loop-row-preserved : goal.loop-row-preserved
 loop-row-preserved c =
     let places = c.args.places.now in
-    let row = c.loop-row.row in
-    let same : get_or places row 0 ≡ row = omega arith in
-    take_more places row 0 (omega arith) ∙ ap₂ (λ p x. p ++ x ∷ []) c.loop-row.invariant same ∙ sym (range_more 0 row row (omega arith))
+    let at = c.loop-row.row in
+    let same : get_or places at 0 ≡ at = omega arith in
+    take_more places at 0 (omega arith) ∙ ap₂ (λ p x. p ++ x ∷ []) c.loop-row.invariant same ∙ sym (range_more 0 at at (omega arith))

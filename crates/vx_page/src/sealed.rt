@@ -1,4 +1,4 @@
-ghost use Rattle.std.specs.Prelude.{◌≡◌, ◌<◌, ◌≤◌, ◌^◌, ◌⊎◌, List, All, length, IfSome, IfOk, OnOk, OnErr, IsErrOf};
+ghost use Rattle.std.specs.Prelude.{◌≡◌, ◌<◌, ◌≤◌, ◌^◌, ◌⊎◌, List, All, length, None, IfSome, IfOk, OnOk, OnErr, IsErrOf};
 ghost use Rattle.vx_base.specs.Causes.{HasCause, Rose};
 ghost use Rattle.vx_store.specs.Store.{IsThere, Stays, Creates, AppendsSome, Removes, MayRemove, KeepsThere, StaysUnfailing, FailsOnly, faults_after, faults_with};
 ghost use Rattle.vx_page.specs.Page.{Cells, HasShape, body, page, IsPageOf};
@@ -213,7 +213,8 @@ impl<S: Store + Drop> Sealed<S> {
 
 /// How many bytes there are, where the number fits 32 bits.
 fn short_len(bytes: &[u8]) -> Option<u32>
-    ensures { IfSome result (λ len. len ≡ length bytes.now) }
+    ensures some { IfSome result (λ len. len ≡ length bytes.now) }
+    ensures none { result ≡ None → 2 ^ 32 ≤ length bytes.now }
 {
     u32::try_from(bytes.len()).ok()
 }

@@ -2,7 +2,8 @@
 //!
 //! A vector is a list of values of one kind, whether it stores each value, one value for all rows, or places
 //! in a list of values. `specs/Lanes.antt` says what typed buffers with marks stand for, `specs/Form.antt`
-//! what the encodings stand for, and `specs/Selection.antt` what a selection is.
+//! what the encodings stand for, and `specs/Selection.antt` what a selection is. Kernels over marks and places
+//! work in lanes of `std::simd`; `specs/Marks.antt` says what they give.
 #![tactic(auto)]
 
 mod batch;

@@ -13,7 +13,7 @@ returns-in_err-number-clause-keeps g c =
 
 pub returns-clause-ok : goal.returns-clause-ok
 returns-clause-ok g c =
-    new_page _ _ _ c.args.file.0 c.in_ok-number.number _ c.args.shape.now c.args.rows.now c.as_slice-written.result.now c.in_ok-number.ensures.number c.in_ok-number.ensures.ok (rw c.as_slice-written.ensures.value c.in_ok-bytes.ensures.page) c.in-Some.ensures c.hash_key.ensures refl c.in-Ok.ensures.ok
+    new_page _ _ _ c.args.file.0 c.in_ok-number.number _ c.args.shape.now c.args.rows.now c.as_slice-written.result.now c.in_ok-number.ensures.number c.in_ok-number.ensures.ok (rw c.as_slice-written.ensures.value c.in_ok-bytes.ensures.page) c.in-Some.ensures.some c.hash_key.ensures refl c.in-Ok.ensures.ok
 
 pub returns-clause-keeps : goal.returns-clause-keeps
 returns-clause-keeps g c =

@@ -6,7 +6,7 @@ ghost use Rattle.vx_meaning.specs.Faulty.{Faulty, IsFirstFault};
 ghost use Rattle.vx_meaning.specs.Stopped.{IfFault, IfAnswerRows, IfAnswerFault};
 
 use crate::grouping::{Grouping, over_aggregation};
-use crate::joining::Joining;
+use crate::joining::joined;
 use crate::outcome::{SlowAnswer, Stop};
 use crate::rowwise::{moved, over_filter, over_limit, over_project};
 use crate::sorting::{over_order, over_top};
@@ -67,12 +67,8 @@ fn answer(alloc: Global, node: Node) -> Result<Vec<Row>, Stop>
             over_filter(alloc, id, &predicate, answer(alloc, source.into_inner())?)
         }
         Body::Project { exprs, source } => {
-            over_project(
-                alloc,
-                id,
-                exprs.as_slice(),
-                answer(alloc, source.into_inner())?,
-            )
+            let below = answer(alloc, source.into_inner())?;
+            over_project(alloc, id, exprs.as_slice(), below)
         }
         Body::Aggregation {
             step,
@@ -95,18 +91,12 @@ fn answer(alloc: Global, node: Node) -> Result<Vec<Row>, Stop>
             left,
             right,
         } => {
-            let left_columns = columns(left.get())?;
-            let right_columns = columns(right.get())?;
+            let widths = (columns(left.get())?, columns(right.get())?);
             let probe = answer(alloc, left.into_inner())?;
             let build = answer(alloc, right.into_inner())?;
-            let joining = Joining {
-                kind,
-                left_keys: left_keys.as_slice(),
-                right_keys: right_keys.as_slice(),
-                left_columns,
-                right_columns,
-            };
-            Ok(joining.over(alloc, probe.as_slice(), build.as_slice())?)
+            let rows = (probe.as_slice(), build.as_slice());
+            let (left_keys, right_keys) = (left_keys.as_slice(), right_keys.as_slice());
+            Ok(joined(alloc, kind, left_keys, right_keys, widths, rows)?)
         }
         Body::Order { keys, source } => {
             Ok(over_order(keys.as_slice(), answer(alloc, source.into_inner())?)?)

@@ -1,4 +1,4 @@
-ghost use Rattle.std.specs.Prelude.{◌≡◌, ◌++◌, IfOk, OnOk};
+ghost use Rattle.std.specs.Prelude.{◌≡◌, ◌++◌, map, IfOk, OnOk};
 ghost use Rattle.std.specs.List.{list_any};
 ghost use Rattle.vx_value.specs.KeyBytes.{key_values};
 ghost use Rattle.vx_value.specs.Value.{is_null};
@@ -14,17 +14,38 @@ use vx_value::{Row, Value};
 
 /// A join: its kind, the columns of each side's key, and how many columns each side has.
 #[derive(Clone, Copy, Debug)]
-pub struct Joining<'a> {
-    pub kind: JoinKind,
-    pub left_keys: &'a [u32],
-    pub right_keys: &'a [u32],
-    pub left_columns: usize,
-    pub right_columns: usize,
+struct Joining<'a> {
+    kind: JoinKind,
+    left_keys: &'a [u32],
+    right_keys: &'a [u32],
+    left_columns: usize,
+    right_columns: usize,
+}
+
+/// The rows of a join of two whole lists, whose rows have so many columns.
+pub fn joined(
+    alloc: Global,
+    kind: JoinKind,
+    left_keys: &[u32],
+    right_keys: &[u32],
+    columns: (usize, usize),
+    rows: (&[Row], &[Row]),
+) -> Result<Vec<Row>, AllocError>
+    ensures { IfOk result (λ all. all.items ≡ joins.joined kind (record { left_keys = left_keys.now; right_keys = right_keys.now; left_columns = columns.0; right_columns = columns.1 }) rows.entry.0.now (map joins.fresh rows.entry.1.now)) }
+{
+    let joining = Joining {
+        kind,
+        left_keys,
+        right_keys,
+        left_columns: columns.0,
+        right_columns: columns.1,
+    };
+    joining.over(alloc, rows.0, rows.1)
 }
 
 impl Joining<'_> {
     /// The joined rows: what each left row gives, then the right rows without a match.
-    pub fn over(&self, alloc: Global, left: &[Row], right: &[Row]) -> Result<Vec<Row>, AllocError>
+    fn over(&self, alloc: Global, left: &[Row], right: &[Row]) -> Result<Vec<Row>, AllocError>
         ensures { IfOk result (λ rows. rows.items ≡ words.joined_by self.now left.now right.now) }
     {
         let mut rows = self.probed(alloc, left, right)?;

@@ -1,0 +1,185 @@
+-- The loops that go along a chain.
+use Rattle.std.proofs.Common.{inl, inr, ◌≡◌, ◌≢◌, ◌⊎◌, zero, suc, ℕ, ◌+◌, ◌-◌, ◌*◌, ◌^◌, ◌<◌, ◌≤◌, Bool, true, false, eqb, IsTrue, ◌↔◌, Some, None, List, [], ◌∷◌, ◌++◌, length, take, drop, min, refl, sym, ap, ◌∙◌, subst, arith}
+use Rattle.std.proofs.lemmas.Bool.{cases_lt, eqb-true, eq-eqb, both_ways}
+use Rattle.std.proofs.lemmas.List.{append-nil, append_assoc, nil_from_length, take_min, take_at, drop_at, take-append-le, take-append-drop, length-take, length-drop}
+use Rattle.std.proofs.lemmas.List.Concat.{flat_map-cons}
+use Rattle.std.proofs.Math.Seq.{take-length, drop-length, take-append-add}
+use Rattle.vx_arena.specs.Chunks.{Chunks}
+use Rattle.vx_arena.specs.Names.{none}
+use Rattle.vx_arena.specs.Text.{payload_at, StandsLive, next_at, part_at, Stands, IsChain, bytes_in, bytes_from, HasText}
+use Rattle.vx_arena.proofs.Chains.{chain_from, chain_none}
+use Rattle.vx_arena.proofs.Texts.{text_bytes}
+
+pub part_is : (payload : List ℕ) (n count : ℕ) → n ≡ length payload - 8 → count ≡ min n 2040 → take count (drop 8 payload) ≡ take 2040 (drop 8 payload)
+part_is payload n count is least =
+    let long : length (drop 8 payload) ≡ length payload - 8 = length-drop 8 payload in
+    let all : count ≡ min 2040 (length (drop 8 payload)) = omega (arith, is, least, long) in
+    ap (λ (k : ℕ). take k (drop 8 payload)) all ∙ take_min 2040 (drop 8 payload)
+
+-- what is left of a chain
+pub record Left (c : Chunks) (name done : ℕ) : Type 0 where
+  pub rest : List ℕ
+  pub chain : IsChain c name rest
+  pub few : length rest + done ≤ 33
+
+left_none : (c : Chunks) (name done : ℕ) (l : Left c name done) → name ≡ none → l.rest ≡ []
+left_none c name done l e = chain_none c name l.rest e l.chain
+
+left_over : (c : Chunks) (name done : ℕ) (l : Left c name done) → 33 ≤ done → l.rest ≡ []
+left_over c name done l ge = nil_from_length l.rest (let few : length l.rest + done ≤ 33 = l.few in omega (arith, few, ge))
+
+live_of : (c : Chunks) (name : ℕ) (rest : List ℕ) → IsChain c name rest → name ≢ none → StandsLive c name
+live_of c name [] chain some = absurd (some chain)
+live_of c name (n ∷ rest) chain some = subst (λ (k : ℕ). StandsLive c k) (sym chain.0.is) chain.0.live
+
+pub left_live : (c : Chunks) (name done : ℕ) → Left c name done → name ≢ none → StandsLive c name
+left_live c name done l some = live_of c name l.rest l.chain some
+
+-- one block further
+record Further (c : Chunks) (name done : ℕ) (rest : List ℕ) : Type 0 where
+  pub left : Left c (next_at c name) (done + 1)
+  pub bytes : bytes_in c rest ≡ part_at c name ++ bytes_in c left.rest
+
+further : (c : Chunks) (name done : ℕ) (rest : List ℕ) → IsChain c name rest → length rest + done ≤ 33 → name ≢ none → Further c name done rest
+further c name done [] chain few some = absurd (some chain)
+further c name done (n ∷ rest) chain few some =
+    let here : n ≡ name = sym chain.0.is in
+    record {
+      left = record { rest = rest; chain = chain_from c (next_at c n) (next_at c name) rest (ap (next_at c) here) chain.1; few = omega arith };
+      bytes = flat_map-cons (part_at c) n rest ∙ ap (λ (k : ℕ). part_at c k ++ bytes_in c rest) here;
+    }
+
+-- what was read so far
+pub record ReadSoFar (c : Chunks) (old into : List ℕ) (first name done : ℕ) : Type 0 where
+  pub left : Left c name done
+  pub all : into ++ bytes_in c left.rest ≡ old ++ bytes_from 33 c first
+  pub kept : take (length old) into ≡ old
+
+pub read_start : (c : Chunks) (old : List ℕ) (first : ℕ) → HasText c first → ReadSoFar c old old first first 0
+read_start c old first h = record {
+  left = record { rest = h.names; chain = h.chain; few = let few : length h.names ≤ 33 = h.few in omega (arith, few) };
+  all = ap (λ (x : List ℕ). old ++ x) (sym (text_bytes c first h));
+  kept = take-length old;
+}
+
+read_done : (c : Chunks) (old into : List ℕ) (first name done : ℕ) (r : ReadSoFar c old into first name done) → r.left.rest ≡ [] → into ≡ old ++ bytes_from 33 c first
+read_done c old into first name done r e = sym (append-nil into) ∙ (ap (λ (l : List ℕ). into ++ bytes_in c l) (sym e) ∙ r.all)
+
+pub read_end : (c : Chunks) (old into : List ℕ) (first name done : ℕ) → ReadSoFar c old into first name done → name ≡ none → into ≡ old ++ bytes_from 33 c first
+read_end c old into first name done r e = read_done c old into first name done r (left_none c name done r.left e)
+
+pub read_over : (c : Chunks) (old into : List ℕ) (first name done : ℕ) → ReadSoFar c old into first name done → 33 ≤ done → into ≡ old ++ bytes_from 33 c first
+read_over c old into first name done r ge = read_done c old into first name done r (left_over c name done r.left ge)
+
+pub read_more : (c : Chunks) (old into : List ℕ) (first name done : ℕ) → ReadSoFar c old into first name done → name ≢ none → ReadSoFar c old (into ++ part_at c name) first (next_at c name) (done + 1)
+read_more c old into first name done r some =
+    let f : Further c name done r.left.rest = further c name done r.left.rest r.left.chain r.left.few some in
+    let long : length old ≡ min (length old) (length into) = ap length (sym r.kept) ∙ length-take (length old) into in
+    record {
+      left = f.left;
+      all = append_assoc into (part_at c name) (bytes_in c f.left.rest) ∙ (ap (λ (x : List ℕ). into ++ x) (sym f.bytes) ∙ r.all);
+      kept = take-append-le (length old) into (part_at c name) (omega (arith, long)) ∙ r.kept;
+    }
+
+-- a part and what is behind it, against a text
+record Matches (part behind text : List ℕ) (count : ℕ) : Type 0 where
+  pub both : take (length text) (part ++ behind) ≡ text → (take count part ≡ take count text) × (take (length (drop count text)) behind ≡ drop count text)
+  pub from : take count part ≡ take count text → take (length (drop count text)) behind ≡ drop count text → take (length text) (part ++ behind) ≡ text
+
+matches_short : (part behind text : List ℕ) (count : ℕ) → count ≡ length text → length text ≤ length part → Matches part behind text count
+matches_short part behind text count is le =
+    let near : take (length text) (part ++ behind) ≡ take (length text) part = take-append-le (length text) part behind le in
+    let whole : take count text ≡ text = ap (λ (k : ℕ). take k text) is ∙ take-length text in
+    let nothing : drop count text ≡ [] = ap (λ (k : ℕ). drop k text) is ∙ drop-length text in
+    record {
+      both = λ e. (ap (λ (k : ℕ). take k part) is ∙ (sym near ∙ (e ∙ sym whole)), ap (λ (l : List ℕ). take (length l) behind) nothing ∙ sym nothing);
+      from = λ one two. near ∙ (ap (λ (k : ℕ). take k part) (sym is) ∙ (one ∙ whole));
+    }
+
+matches_long : (part behind text : List ℕ) (count k : ℕ) → count ≡ length part → length text ≡ length part + k → Matches part behind text count
+matches_long part behind text count k is long =
+    let whole : take count part ≡ part = ap (λ (n : ℕ). take n part) is ∙ take-length part in
+    let more : take (length text) (part ++ behind) ≡ part ++ take k behind = ap (λ (n : ℕ). take n (part ++ behind)) long ∙ take-append-add part behind k in
+    let left : length (drop count text) ≡ k = length-drop count text ∙ omega (arith, is, long) in
+    record {
+      both = λ e.
+        (let split : part ++ take k behind ≡ text = sym more ∙ e in
+        (whole ∙ (sym (take_at part (take k behind) count (sym is)) ∙ ap (take count) split),
+        ap (λ (n : ℕ). take n behind) left ∙ (sym (drop_at part (take k behind) count (sym is)) ∙ ap (drop count) split)));
+      from = λ one two. more ∙ (ap (λ (x : List ℕ). x ++ take k behind) (sym whole ∙ one)
+        ∙ (ap (λ (x : List ℕ). take count text ++ x) (ap (λ (n : ℕ). take n behind) (sym left) ∙ two) ∙ take-append-drop count text));
+    }
+
+matches : (part behind text : List ℕ) (count : ℕ) → count ≡ min (length part) (length text) → Matches part behind text count
+matches part behind text count is = elim (cases_lt (length part) (length text)) as (λ _. Matches part behind text count) [
+  | inl less ↦ matches_long part behind text count (length text - length part) (omega (arith, is, less)) (omega (arith, less))
+  | inr ge ↦ matches_short part behind text count (omega (arith, is, ge)) ge
+]
+
+-- whether the text is there comes down to whether its rest is in the rest of the chain
+pub record ComparedSoFar (c : Chunks) (text rest : List ℕ) (first name done : ℕ) : Type 0 where
+  pub left : Left c name done
+  pub only : take (length text) (bytes_from 33 c first) ≡ text → take (length rest) (bytes_in c left.rest) ≡ rest
+  pub if_rest : take (length rest) (bytes_in c left.rest) ≡ rest → take (length text) (bytes_from 33 c first) ≡ text
+
+pub compare_start : (c : Chunks) (text : List ℕ) (first : ℕ) → HasText c first → ComparedSoFar c text text first first 0
+compare_start c text first h =
+    let same : bytes_from 33 c first ≡ bytes_in c h.names = text_bytes c first h in
+    record {
+      left = record { rest = h.names; chain = h.chain; few = let few : length h.names ≤ 33 = h.few in omega (arith, few) };
+      only = λ e. ap (take (length text)) (sym same) ∙ e;
+      if_rest = λ e. ap (take (length text)) same ∙ e;
+    }
+
+take_nil : (n : ℕ) → ◌≡◌ {A = List ℕ} (take n []) []
+take_nil zero = refl
+take_nil (suc n) = refl
+
+compare_done : (c : Chunks) (text rest : List ℕ) (first name done : ℕ) (s : ComparedSoFar c text rest first name done) → s.left.rest ≡ [] → (b : Bool) → b ≡ eqb (length rest) 0 → IsTrue b ↔ (take (length text) (bytes_from 33 c first) ≡ text)
+compare_done c text rest first name done s e b is =
+    (λ yes. s.if_rest (let nil : rest ≡ [] = nil_from_length rest (eqb-true (length rest) 0 (sym is ∙ yes)) in
+      subst (λ (r : List ℕ). take (length r) (bytes_in c s.left.rest) ≡ r) (sym nil) refl),
+    λ same. is ∙ eq-eqb (length rest) 0 (ap length (sym (nothing_left (s.only same)))))
+  where
+  nothing_left : take (length rest) (bytes_in c s.left.rest) ≡ rest → [] ≡ rest
+  nothing_left is = sym (ap (λ (l : List ℕ). take (length rest) (bytes_in c l)) e ∙ take_nil (length rest)) ∙ is
+
+pub compare_end : (c : Chunks) (text rest : List ℕ) (first name done : ℕ) → ComparedSoFar c text rest first name done → name ≡ none → (b : Bool) → b ≡ eqb (length rest) 0 → IsTrue b ↔ (take (length text) (bytes_from 33 c first) ≡ text)
+compare_end c text rest first name done s e b is = compare_done c text rest first name done s (left_none c name done s.left e) b is
+
+pub compare_over : (c : Chunks) (text rest : List ℕ) (first name done : ℕ) → ComparedSoFar c text rest first name done → 33 ≤ done → (b : Bool) → b ≡ eqb (length rest) 0 → IsTrue b ↔ (take (length text) (bytes_from 33 c first) ≡ text)
+compare_over c text rest first name done s ge b is = compare_done c text rest first name done s (left_over c name done s.left ge) b is
+
+pub compare_more : (c : Chunks) (text rest part : List ℕ) (first name done count : ℕ) → ComparedSoFar c text rest first name done → name ≢ none → part ≡ part_at c name → count ≡ min (length part) (length rest) → take count part ≡ take count rest → ComparedSoFar c text (drop count rest) first (next_at c name) (done + 1)
+compare_more c text rest part first name done count s some is least same =
+    let f : Further c name done s.left.rest = further c name done s.left.rest s.left.chain s.left.few some in
+    let m : Matches part (bytes_in c f.left.rest) rest count = matches part (bytes_in c f.left.rest) rest count least in
+    let here : bytes_in c s.left.rest ≡ part ++ bytes_in c f.left.rest = f.bytes ∙ ap (λ (x : List ℕ). x ++ bytes_in c f.left.rest) (sym is) in
+    record {
+      left = f.left;
+      only = λ e. (m.both (ap (take (length rest)) (sym here) ∙ s.only e)).1;
+      if_rest = λ e. s.if_rest (ap (take (length rest)) here ∙ m.from same e);
+    }
+
+pub compare_less : (c : Chunks) (text rest part : List ℕ) (first name done count : ℕ) → ComparedSoFar c text rest first name done → name ≢ none → part ≡ part_at c name → count ≡ min (length part) (length rest) → (take count part ≡ take count rest → ⊥) → take (length text) (bytes_from 33 c first) ≡ text → ⊥
+compare_less c text rest part first name done count s some is least apart e =
+    let f : Further c name done s.left.rest = further c name done s.left.rest s.left.chain s.left.few some in
+    let m : Matches part (bytes_in c f.left.rest) rest count = matches part (bytes_in c f.left.rest) rest count least in
+    let here : bytes_in c s.left.rest ≡ part ++ bytes_in c f.left.rest = f.bytes ∙ ap (λ (x : List ℕ). x ++ bytes_in c f.left.rest) (sym is) in
+    apart (m.both (ap (take (length rest)) (sym here) ∙ s.only e)).0
+
+pub read_next : (c : Chunks) (old into now part : List ℕ) (first name next done : ℕ) → ReadSoFar c old into first name done → name ≢ none → now ≡ into ++ part → part ≡ part_at c name → next ≡ next_at c name → ReadSoFar c old now first next (done + 1)
+read_next c old into now part first name next done r some all is to =
+    subst (λ (k : ℕ). ReadSoFar c old now first k (done + 1)) (sym to)
+    (subst (λ (l : List ℕ). ReadSoFar c old l first (next_at c name) (done + 1)) (sym (all ∙ ap (λ (x : List ℕ). into ++ x) is)) (read_more c old into first name done r some))
+
+pub compare_next : (c : Chunks) (text rest now part : List ℕ) (first name next done count : ℕ) → ComparedSoFar c text rest first name done → name ≢ none → part ≡ part_at c name → count ≡ min (length part) (length rest) → take count part ≡ take count rest → now ≡ drop count rest → next ≡ next_at c name → ComparedSoFar c text now first next (done + 1)
+compare_next c text rest now part first name next done count s some is least same behind to =
+    subst (λ (k : ℕ). ComparedSoFar c text now first k (done + 1)) (sym to)
+    (subst (λ (l : List ℕ). ComparedSoFar c text l first (next_at c name) (done + 1)) (sym behind) (compare_more c text rest part first name done count s some is least same))
+
+pub not_true : IsTrue false → ⊥
+not_true f = both_ways false refl f
+
+pub compare_false : {P : Type 0} → (P → ⊥) → IsTrue false ↔ P
+compare_false apart = (λ f. absurd (not_true f), λ p. absurd (apart p))

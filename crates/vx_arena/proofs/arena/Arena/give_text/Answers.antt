@@ -1,0 +1,8 @@
+use Rattle.std.proofs.Common.{◌≡◌, ◌^◌, ◌<◌, ℕ, sym, subst}
+use Rattle.vx_arena.specs.Names.{name_of}
+use Rattle.vx_arena.specs.Text.{ArenaModel, IsChained, GivesAll}
+use Rattle.vx_arena.proofs.Texts.{gives_keeps}
+use Rattle.vx_arena.proofs.arena.Arena.give_text.Goals as goal
+
+pub returns-clause-keeps : goal.returns-clause-keeps
+returns-clause-keeps c = gives_keeps c.args.self.now c.release.new.self c.args.at (subst (λ (v : ArenaModel). IsChained v.chunks) c.self.view_is c.self.invariant.chained) c.requires (subst (λ (n : ℕ). GivesAll c.args.self.now c.release.new.self n) c.name.ensures c.release.ensures)

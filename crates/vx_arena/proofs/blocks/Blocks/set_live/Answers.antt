@@ -1,0 +1,30 @@
+use Rattle.std.proofs.Common.{◌+◌, ◌≤◌, [], ◌∷◌, length, ap, ◌∙◌, sym, subst, arith, ◌≡◌}
+use Rattle.vx_arena.specs.Block.{size}
+use Rattle.vx_arena.specs.Chunks.{Chunks, chunks_of, block_at, with_blocks, IsTiling, IsBlock}
+use Rattle.vx_arena.proofs.Reading.{at_block, inside_block}
+use Rattle.vx_arena.proofs.Surviving.{still_there}
+use Rattle.vx_arena.proofs.Changing.{flag_fits, wrote_live}
+use Rattle.vx_arena.proofs.blocks.Blocks.set_live.Goals as goal
+
+pub overflow_add-start : goal.overflow_add-start
+overflow_add-start c =
+    let within : c.args.at.at + size (block_at c.args.self.now c.args.at) ≤ 4096 = (at_block c.self.inside.region c.args.self.now c.args.at c.self.view_is c.self.invariant c.requires.there).within in
+    omega (arith, within)
+
+pub write-requires : goal.write-requires
+write-requires c = inside_block c.self.inside.region c.args.at (block_at c.args.self.now c.args.at) 4 (length c.flag.result) (at_block c.self.inside.region c.args.self.now c.args.at c.self.view_is c.self.invariant c.requires.there) (flag_fits (block_at c.args.self.now c.args.at) c.args.live c.flag.result c.flag.ensures)
+
+pub invariant_of-self : goal.invariant_of-self
+invariant_of-self c = subst IsTiling (sym c.write.ensures) (wrote_live c.self.inside.region c.args.self.now c.args.at c.args.live c.flag.result c.self.view_is c.self.invariant c.requires.there c.flag.ensures).tiling
+
+pub returns-clause-set : goal.returns-clause-set
+returns-clause-set c = ap chunks_of c.write.ensures
+    ∙ ((wrote_live c.self.inside.region c.args.self.now c.args.at c.args.live c.flag.result c.self.view_is c.self.invariant c.requires.there c.flag.ensures).chunks
+    ∙ ap (λ (v : Chunks). with_blocks v c.args.at (record { live = c.args.live; payload = (block_at c.args.self.now c.args.at).payload } ∷ [])) c.self.view_is)
+
+pub returns-clause-there : goal.returns-clause-there
+returns-clause-there c =
+    let after : chunks_of c.write.new.self ≡ with_blocks c.args.self.now c.args.at ((record { live = c.args.live; payload = (block_at c.args.self.now c.args.at).payload }) ∷ []) = ap chunks_of c.write.ensures
+    ∙ ((wrote_live c.self.inside.region c.args.self.now c.args.at c.args.live c.flag.result c.self.view_is c.self.invariant c.requires.there c.flag.ensures).chunks
+    ∙ ap (λ (v : Chunks). with_blocks v c.args.at (record { live = c.args.live; payload = (block_at c.args.self.now c.args.at).payload } ∷ [])) c.self.view_is) in
+    subst (λ (v : Chunks). IsBlock v c.args.at) (sym after) (still_there c.args.self.now c.args.at (record { live = c.args.live; payload = (block_at c.args.self.now c.args.at).payload }) c.requires.there)

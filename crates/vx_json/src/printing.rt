@@ -24,40 +24,39 @@ pub fn push_row(text: &mut Vec<u8>, row: &Row) -> Result<(), AllocError>
     ensures utf8 { OnOk result (IsUtf8 (row_text row.now)) }
 {
     text.push(b'[')?;
-    push_cells(text, &mut Buffer::new(), row.cells())?;
+    push_cells(text, row.cells())?;
     text.push(b']')?;
     Ok(())
 }
 
 #[tactic(auto, using(crate::proofs::PrintingLaws::texts))]
-fn push_cells(text: &mut Vec<u8>, digits: &mut Buffer, cells: &[Value]) -> Result<(), AllocError>
+fn push_cells(text: &mut Vec<u8>, cells: &[Value]) -> Result<(), AllocError>
     ensures ok { OnOk result (text.new.items ≡ text.old.items ++ cells_text cells.now) }
     ensures utf8 { OnOk result (IsUtf8 (cells_text cells.now)) }
 {
     match cells.split_first() {
         None => Ok(()),
         Some((first, rest)) => {
-            push_cell(text, digits, first)?;
-            push_rest(text, digits, rest)
+            push_cell(text, first)?;
+            push_rest(text, rest)
         }
     }
 }
 
 #[tactic(auto, using(crate::proofs::PrintingLaws::texts))]
-fn push_rest(text: &mut Vec<u8>, digits: &mut Buffer, cells: &[Value]) -> Result<(), AllocError>
+fn push_rest(text: &mut Vec<u8>, cells: &[Value]) -> Result<(), AllocError>
     ensures ok { OnOk result (text.new.items ≡ text.old.items ++ rest_text cells.now) }
     ensures utf8 { OnOk result (IsUtf8 (rest_text cells.now)) }
 {
     for cell in cells {
         text.push(b',')?;
-        push_cell(text, digits, cell)?;
+        push_cell(text, cell)?;
     }
     Ok(())
 }
 
-/// A cell; an int goes through a buffer that all cells of a row share.
 #[tactic(auto, using(crate::proofs::PrintingLaws::texts))]
-fn push_cell(text: &mut Vec<u8>, digits: &mut Buffer, cell: &Value) -> Result<(), AllocError>
+fn push_cell(text: &mut Vec<u8>, cell: &Value) -> Result<(), AllocError>
     ensures ok { OnOk result (text.new.items ≡ text.old.items ++ cell_text cell.now) }
     ensures utf8 { OnOk result (IsUtf8 (cell_text cell.now)) }
 {
@@ -65,7 +64,7 @@ fn push_cell(text: &mut Vec<u8>, digits: &mut Buffer, cell: &Value) -> Result<()
         Value::Null => text.extend_from_slice(b"null"),
         Value::Bool(true) => text.extend_from_slice(b"true"),
         Value::Bool(false) => text.extend_from_slice(b"false"),
-        Value::Int(number) => text.extend_from_slice(digits.format(*number).as_bytes()),
+        Value::Int(number) => text.extend_from_slice(Buffer::new().format(*number).as_bytes()),
         Value::Text(cell) => push_quoted(text, cell.as_bytes()),
     }
 }

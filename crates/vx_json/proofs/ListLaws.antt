@@ -6,6 +6,7 @@ use Rattle.serde_json.specs.View.{view, items_of}
 use Rattle.serde_json.proofs.Views.{view-Array, view-Object, members_len-members_view}
 use Rattle.serde_json.specs.declared.value.Value.{Value, Array, Object}
 use Rattle.vx_json.specs.declared.lists.Count.{Count}
+use Rattle.vx_json.specs.declared.lists.Count.TheVariants.{Any}
 use Rattle.vx_json.specs.Place.{Said, at_item, misfit, and_then}
 use Rattle.vx_json.specs.Fields.{field_count}
 use Rattle.vx_json.specs.Lists.{is_lawful, list_of, as_list, item_of, items_at, each_from, list_at}
@@ -87,6 +88,26 @@ each-stop reads path xs i x said front within is gives =
 pub each-done : {A T : Type 0} (reads : ℕ → List ℕ → A → Result T Said) (path : List ℕ) (xs : List A) (i : ℕ) (front : List T) → length xs ≤ i → joined front (each_from reads path i (drop i xs)) ≡ Ok front
 each-done reads path xs i front past = ap (joined front) (at_drop_all (each_from reads path i) xs i past) ∙ ap Ok (append-nil front)
 
+-- ---- the same over the rest of a list
+
+pub rest-more : {A T : Type 0} (reads : ℕ → List ℕ → A → Result T Said) (path : List ℕ) (i : ℕ) (rest later : List A) (x : A) (y : T) (front : List T) → rest ≡ x ∷ later → reads i (at_item path i) x ≡ Ok y
+    → joined (front ++ y ∷ []) (each_from reads path (i + 1) later) ≡ joined front (each_from reads path i rest)
+rest-more reads path i rest later x y front is gives =
+    joined-push front y _ ∙ ap (joined front) (sym (ap (each_from reads path i) is ∙ ap (λ read. and_then read (λ z. and_then (each_from reads path (i + 1) later) (λ ys. Ok (z ∷ ys)))) gives))
+
+pub rest-stop : {A T : Type 0} (reads : ℕ → List ℕ → A → Result T Said) (path : List ℕ) (i : ℕ) (rest later : List A) (x : A) (said : Said) (front : List T) → rest ≡ x ∷ later → reads i (at_item path i) x ≡ Err said
+    → joined front (each_from reads path i rest) ≡ Err said
+rest-stop reads path i rest later x said front is gives =
+    ap (joined front) (ap (each_from reads path i) is ∙ ap (λ read. and_then read (λ z. and_then (each_from reads path (i + 1) later) (λ ys. Ok (z ∷ ys)))) gives)
+
+pub rest-done : {A T : Type 0} (reads : ℕ → List ℕ → A → Result T Said) (path : List ℕ) (i : ℕ) (rest : List A) (front : List T) → rest ≡ [] → joined front (each_from reads path i rest) ≡ Ok front
+rest-done reads path i rest front is = ap (λ xs. joined front (each_from reads path i xs)) is ∙ ap Ok (append-nil front)
+
+-- a list of any length that is an array
+pub list_at-Array : {T : Type 0} (reads : ℕ → List ℕ → Data → Result T Said) (path : List ℕ) (values : Vec Value Global)
+    → list_at Any reads path (view (Array values)) ≡ each_from (λ i p value. reads i p (view value)) path 0 values.items
+list_at-Array reads path values = list_at-items Any reads path (view (Array values)) values.items (items_at-lawful Any path (view (Array values)) values.items (sym (as_list-Array values)) refl)
+
 -- an item of JSON values
 pub item_of-view : (values : List Value) (i : ℕ) (x : Value) → i < length values → x ≡ get_or values i x → item_of (map view values) i ≡ view x
 item_of-view [] i x within is = absurd (omega arith)
@@ -100,6 +121,8 @@ pub field_count-Object : (fields : BTreeMap (String Global) Value) → field_cou
 field_count-Object fields = rw (view-Object fields, members_len-members_view fields.entries)
 
 pub ruleset objects = (field_count-Object, view-Object)
+
+pub ruleset arrays = (list_at-Array, view-Object)
 
 pub ruleset lists = (as_list-Array, items_at-lawful, items_at-unlawful, items_at-none, list_at-items, list_at-refused)
 

@@ -72,6 +72,14 @@ values_at path d =
     and_then (parallel_at path d) (λ parallel.
     Ok (front.Values kinds rows parallel))))
 
+-- the same as a body
+abbrev pub values_body_at : List ℕ → Data → Result Body Said
+values_body_at path d =
+    and_then (part (codes "kinds") kinds_at path d) (λ kinds.
+    and_then (part (codes "rows") (rows_at kinds) path d) (λ rows.
+    and_then (parallel_at path d) (λ parallel.
+    Ok (body.Values kinds rows parallel))))
+
 -- how many levels of JSON an expression may have, as many as the reader of JSON takes
 abbrev pub most_levels : ℕ
 most_levels = 128
@@ -195,6 +203,13 @@ opened_at path d =
     and_then (part (codes "id") small_at path d) (λ id.
     and_then (front_at word path d) (λ own.
     Ok (record { id = id; front = own }))))
+
+-- a values node that has the form of one
+abbrev pub values_node_at : List ℕ → Data → Result Node Said
+values_node_at path d =
+    and_then (part (codes "id") small_at path d) (λ id.
+    and_then (values_body_at path d) (λ body.
+    Ok (record { id = id; body = body })))
 
 -- a node with at most so many levels of nodes
 unfoldable pub node_at : ℕ → List ℕ → Data → Result Node Said

@@ -81,7 +81,12 @@ impl<'k> Reads for Rows<'k> {
     }
 }
 
-fn row_at(alloc: Global, kinds: &[Kind], way: &Way<'_>, value: &Json) -> Result<Row, PlanError>
+pub(crate) fn row_at(
+    alloc: Global,
+    kinds: &[Kind],
+    way: &Way<'_>,
+    value: &Json,
+) -> Result<Row, PlanError>
     ensures { Gives result (spec.row_at kinds.now (path_of way.now) (view value.now)) }
 {
     let cells = vec_at(

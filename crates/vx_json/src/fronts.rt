@@ -58,7 +58,7 @@ fn values_at(alloc: Global, way: &Way<'_>, value: &Json) -> Result<Front, PlanEr
     })
 }
 
-fn parallel_at(alloc: Global, way: &Way<'_>, value: &Json) -> Result<bool, PlanError>
+pub(crate) fn parallel_at(alloc: Global, way: &Way<'_>, value: &Json) -> Result<bool, PlanError>
     ensures { Gives result (spec.parallel_at (path_of way.now) (view value.now)) }
 {
     if has("parallel", value) {

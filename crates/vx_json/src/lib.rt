@@ -19,6 +19,7 @@ mod fronts;
 mod lists;
 mod long_texts;
 mod nodes;
+mod owned;
 mod parts;
 mod plans;
 mod printing;

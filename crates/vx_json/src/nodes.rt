@@ -32,7 +32,7 @@ fn node_at(alloc: Global, levels: u32, way: &Way<'_>, value: &Json) -> Result<No
 
 /// The body of a node, with its sources.
 #[cycle(node)]
-fn body_at(
+pub(crate) fn body_at(
     alloc: Global,
     levels: u32,
     front: Front,
@@ -75,7 +75,7 @@ fn body_at(
 
 /// The node in a field.
 #[cycle(node)]
-pub(crate) fn source_at(
+fn source_at(
     alloc: Global,
     levels: u32,
     way: &Way<'_>,
@@ -92,7 +92,7 @@ pub(crate) fn source_at(
     )
 }
 
-fn work_over(alloc: Global, work: Work, source: Node) -> Result<Body, AllocError>
+pub(crate) fn work_over(alloc: Global, work: Work, source: Node) -> Result<Body, AllocError>
     ensures { IfOk result (λ body. body ≡ spec.work_over work source) }
 {
     let source = Boxed::new(alloc, source)?;
@@ -126,7 +126,7 @@ fn work_over(alloc: Global, work: Work, source: Node) -> Result<Body, AllocError
 }
 
 /// A node's number and own part.
-fn opened_at(alloc: Global, way: &Way<'_>, value: &Json) -> Result<Opened, PlanError>
+pub(crate) fn opened_at(alloc: Global, way: &Way<'_>, value: &Json) -> Result<Opened, PlanError>
     ensures { Gives result (spec.opened_at (path_of way.now) (view value.now)) }
 {
     let word = node_form(alloc, way, value)?;
@@ -136,7 +136,7 @@ fn opened_at(alloc: Global, way: &Way<'_>, value: &Json) -> Result<Opened, PlanE
 }
 
 /// The word of a node that has the word's fields.
-fn node_form(alloc: Global, way: &Way<'_>, value: &Json) -> Result<NodeWord, PlanError>
+pub(crate) fn node_form(alloc: Global, way: &Way<'_>, value: &Json) -> Result<NodeWord, PlanError>
     ensures { Gives result (spec.node_form (path_of way.now) (view value.now)) }
 {
     let word = node_word(alloc, way, value)?;

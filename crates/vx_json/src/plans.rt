@@ -8,7 +8,7 @@ use crate::error::PlanError;
 use crate::fields::has_only;
 use crate::fronts::MOST_LEVELS;
 use crate::long_texts::has_long;
-use crate::nodes::source_at;
+use crate::owned::source_of;
 use crate::way::Way;
 use serde_json::Value as Json;
 use std::alloc::Global;
@@ -62,16 +62,16 @@ pub(crate) fn parse_plan(alloc: Global, bytes: &[u8]) -> Result<Parsed, PlanErro
     ensures { Gives result (spec.parsed bytes.now) }
 {
     let json = Json::from_slice(alloc, bytes)?;
-    let plan = plan_in(alloc, &json)?;
     let long = has_long(&json);
+    let plan = plan_in(alloc, json)?;
     Ok(Parsed { plan, long })
 }
 
 /// The plan that a JSON value is.
-fn plan_in(alloc: Global, value: &Json) -> Result<Plan, PlanError>
-    ensures { Gives result (spec.plan_in (view value.now)) }
+fn plan_in(alloc: Global, value: Json) -> Result<Plan, PlanError>
+    ensures { Gives result (spec.plan_in (view value)) }
 {
-    if !is_file(value) {
+    if !is_file(&value) {
         let path = String::from_str(alloc, "/")?;
         return Err(PlanError::Refused(Refusal::P2(path)));
     }
@@ -85,8 +85,8 @@ fn is_file(value: &Json) -> bool
     has_only(&["plan"], &[], value)
 }
 
-fn root_in(alloc: Global, value: &Json) -> Result<Node, PlanError>
-    ensures { Gives result (spec.root_in (view value.now)) }
+fn root_in(alloc: Global, value: Json) -> Result<Node, PlanError>
+    ensures { Gives result (spec.root_in (view value)) }
 {
-    source_at(alloc, MOST_LEVELS, &Way::Root, "plan", value)
+    source_of(alloc, MOST_LEVELS, &Way::Root, "plan", value)
 }

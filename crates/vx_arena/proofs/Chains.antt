@@ -1,15 +1,12 @@
 -- Chains of live blocks: what is kept of them, and how they are given back.
-use Rattle.std.proofs.Common.{inl, inr, ◌≡◌, ◌≢◌, ◌⊎◌, zero, suc, ℕ, ◌+◌, ◌-◌, ◌*◌, ◌%◌, ◌^◌, ◌<◌, ◌≤◌, Option, Some, None, List, [], ◌∷◌, ◌++◌, length, take, drop, refl, sym, ap, ◌∙◌, subst, arith}
-use Rattle.std.specs.List.{flat_map}
-use Rattle.std.proofs.lemmas.Bool.{cases_eq}
+use Rattle.std.proofs.Common.{inl, inr, ◌≡◌, ◌≢◌, ℕ, ◌^◌, ◌<◌, None, List, [], ◌∷◌, ◌++◌, length, take, drop, refl, sym, ap, ◌∙◌, subst, arith}
 use Rattle.std.proofs.lemmas.List.Concat.{flat_map-cons}
-use Rattle.vx_arena.specs.Chunks.{Chunks, held_by}
-use Rattle.vx_arena.specs.Names.{none, live_at, lives}
+use Rattle.vx_arena.specs.Chunks.{Chunks}
+use Rattle.vx_arena.specs.Names.{none, live_at}
 use Rattle.vx_arena.specs.Free.{IsIn}
-use Rattle.vx_arena.specs.Part.{IsSpare, Pays}
-use Rattle.vx_arena.specs.Text.{ArenaModel, more, payload_at, StandsLive, next_at, part_at, Stands, IsChain, bytes_in, IsUnnamed, GivesPart, GivesText, GivesAll, HasChain}
+use Rattle.vx_arena.specs.Text.{ArenaModel, more, StandsLive, next_at, part_at, IsChain, bytes_in, GivesPart, GivesText, GivesAll, HasChain}
 use Rattle.vx_arena.proofs.Paying.{pays_kept, pays_then}
-use Rattle.vx_arena.proofs.Chaining.{same_payload, same_next, stands_kept, apart_from}
+use Rattle.vx_arena.proofs.Chaining.{same_payload, same_next, stands_kept}
 
 pub chain_from : (c : Chunks) (first second : ℕ) (names : List ℕ) → first ≡ second → IsChain c first names → IsChain c second names
 chain_from c first second names e chain = subst (λ (k : ℕ). IsChain c k names) e chain

@@ -1,5 +1,5 @@
 -- The classes of free blocks.
-use Rattle.std.proofs.Common.{zero, suc, ◌≡◌, ℕ, ◌<◌, ◌≤◌, eqb, refl, arith, rules, tests}
+use Rattle.std.proofs.Common.{zero, suc, ℕ, ◌<◌, ◌≤◌, arith}
 use Rattle.std.proofs.lemmas.Bool.Decides.{nat_tests}
 use Rattle.vx_arena.specs.Free.{class_len, class_of}
 

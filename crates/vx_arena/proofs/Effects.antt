@@ -1,12 +1,11 @@
 -- What the steps on lists change for live blocks.
-use Rattle.std.proofs.Common.{inl, inr, ◌≡◌, ◌≢◌, ◌⊎◌, ℕ, ◌+◌, ◌*◌, ◌^◌, ◌<◌, ◌≤◌, Bool, true, false, Option, Some, None, List, [], ◌∷◌, length, refl, sym, ap, ◌∙◌, subst, arith, cond}
+use Rattle.std.proofs.Common.{inl, inr, ◌≡◌, ℕ, ◌+◌, ◌≤◌, Bool, true, false, Option, Some, None, List, length, refl, sym, ap, ◌∙◌, arith, cond}
 use Rattle.std.proofs.lemmas.Bool.{cases_eq}
 use Rattle.vx_arena.specs.Block.{Block}
-use Rattle.vx_arena.specs.Chunks.{Chunks, held_by}
-use Rattle.vx_arena.specs.Names.{none, block_of, named, IsNamed, live_in, live_at, len_in, len_at, one_if, lives, Changes}
-use Rattle.vx_arena.specs.Free.{with_before, with_links, SetsBefore, IsLive, Frees, Wakes}
-use Rattle.vx_arena.proofs.Linking.{not_found, named_from, found_named, length-with_before}
-use Rattle.vx_arena.proofs.Relinking.{same_block}
+use Rattle.vx_arena.specs.Chunks.{Chunks}
+use Rattle.vx_arena.specs.Names.{block_of, named, IsNamed, live_in, live_at, len_in, len_at, one_if, lives, Changes}
+use Rattle.vx_arena.specs.Free.{with_before, SetsBefore, IsLive}
+use Rattle.vx_arena.proofs.Linking.{named_from, found_named, length-with_before}
 
 pub live_some : (chunks : Chunks) (name : ℕ) (b : Block) → block_of chunks name ≡ Some b → b.live ≡ true → live_at chunks name ≡ Some b.payload
 unfolding live_at

@@ -1,17 +1,17 @@
 -- The lists of free blocks, where no free block changes; and what such steps change for live blocks.
-use Rattle.std.proofs.Common.{inl, inr, ◌≡◌, ◌≢◌, ◌⊎◌, ℕ, ◌+◌, ◌-◌, ◌*◌, ◌^◌, ◌<◌, ◌≤◌, Bool, true, false, Option, Some, None, List, [], ◌∷◌, length, get_or, take, drop, replicate, refl, sym, ap, ◌∙◌, subst, arith}
-use Rattle.std.proofs.lemmas.Bool.{cases_eq, both_ways}
+use Rattle.std.proofs.Common.{inl, inr, ◌≡◌, ℕ, ◌+◌, ◌-◌, ◌*◌, ◌≤◌, true, false, Some, None, List, [], ◌∷◌, length, take, drop, replicate, refl, sym, ap, ◌∙◌, subst, arith}
+use Rattle.std.proofs.lemmas.Bool.{cases_eq}
 use Rattle.std.proofs.lemmas.List.{length-take-le, length-drop, length-replicate}
 use Rattle.vx_raw.specs.Region.{written}
 use Rattle.vx_arena.specs.Block.{Block}
 use Rattle.vx_arena.specs.Chunks.{Chunks, held_by}
-use Rattle.vx_arena.specs.Names.{none, block_of, named, IsNamed, live_at, len_at, one_if, lives, Changes}
-use Rattle.vx_arena.specs.Free.{class_of, Node, first_of, IsLinked, IsIn, IsListed, IsLive, Splits, Adds, Grows, Halves, Writes}
+use Rattle.vx_arena.specs.Names.{none, block_of, named, IsNamed, one_if, lives, Changes}
+use Rattle.vx_arena.specs.Free.{Node, first_of, IsLinked, IsListed, IsLive, Splits, Adds, Grows, Halves, Writes}
 use Rattle.vx_arena.proofs.Heads.{length-written}
 use Rattle.vx_arena.proofs.Linking.{not_found, named_from, found_named}
 use Rattle.vx_arena.proofs.Relinking.{same_block}
 use Rattle.vx_arena.proofs.Pushing.{live_not_free, long_changed}
-use Rattle.vx_arena.proofs.Effects.{live_some, live_none, live_gone, len_some, len_none, Living, living, is_live, same_live, same_len, changed_len, long_named}
+use Rattle.vx_arena.proofs.Effects.{live_some, live_gone, len_none, Living, living, is_live, same_live, same_len, changed_len, long_named}
 use Rattle.vx_arena.proofs.Steps.{named_live}
 
 abbrev Kept : Chunks → Chunks → Type 0

@@ -1,16 +1,16 @@
 -- What the writes of links change.
-use Rattle.std.proofs.Common.{◌≡◌, ◌≢◌, ℕ, ◌+◌, ◌-◌, ◌*◌, ◌^◌, ◌<◌, ◌≤◌, Some, None, List, [], ◌∷◌, ◌++◌, length, get_or, take, drop, refl, sym, ap, ◌∙◌, subst, arith, w64}
+use Rattle.std.proofs.Common.{◌≡◌, ◌≢◌, ℕ, ◌+◌, ◌^◌, ◌<◌, ◌≤◌, Some, None, List, [], ◌∷◌, ◌++◌, length, get_or, take, drop, refl, sym, ap, ◌∙◌, arith, w64}
 use Rattle.std.specs.Int.{to_le_bytes, from_le_bytes}
 use Rattle.std.proofs.lemmas.Nat.{from_le_bytes-to_le_bytes_8}
 use Rattle.std.proofs.lemmas.List.{append_assoc, drop_at, get_or_append_left, get_or-take, length-take-le}
 use Rattle.vx_raw.specs.Region.{written}
 use Rattle.vx_raw.specs.declared.place.Place.{Place}
-use Rattle.vx_arena.specs.Block.{Block, size}
-use Rattle.vx_arena.specs.Chunks.{Chunks, block_at, IsBlock, with_blocks}
+use Rattle.vx_arena.specs.Block.{Block}
+use Rattle.vx_arena.specs.Chunks.{Chunks, block_at, with_blocks}
 use Rattle.vx_arena.specs.Names.{place_of, none, block_of, named, IsNamed, one_if, lives, Changes}
 use Rattle.vx_arena.specs.Free.{next_in, before_in, with_links, with_before, SetsBefore}
 use Rattle.vx_arena.proofs.Heads.{length-written}
-use Rattle.vx_arena.proofs.Naming.{named_at, named_is, changes_at}
+use Rattle.vx_arena.proofs.Naming.{named_is, changes_at}
 
 -- the same block, as it is found and as it is named
 pub found_named : (chunks : Chunks) (name : ℕ) (b : Block) → block_of chunks name ≡ Some b → named chunks name ≡ b

@@ -1,12 +1,12 @@
 -- Blocks by name: what a change of one block, a cut and a new chunk do.
-use Rattle.std.proofs.Common.{inl, inr, ◌≡◌, ℕ, ◌+◌, ◌-◌, ◌*◌, ◌/◌, ◌%◌, ◌^◌, ◌<◌, ◌≤◌, false, true, Option, Some, None, List, [], ◌∷◌, ◌++◌, length, get_or, set, take, drop, refl, sym, ap, ◌∙◌, subst, arith, unwrap_or}
+use Rattle.std.proofs.Common.{inl, inr, ◌≡◌, ℕ, ◌+◌, ◌-◌, ◌/◌, ◌%◌, ◌^◌, ◌<◌, ◌≤◌, Some, List, [], ◌∷◌, ◌++◌, length, set, refl, sym, ap, ◌∙◌, subst, arith}
 use Rattle.std.specs.List.{sum_by}
 use Rattle.std.proofs.lemmas.List.Sums.{sum_by-cons, sum_by-set, sum_by-append}
 use Rattle.std.proofs.lemmas.List.{length-append, length-set}
 use Rattle.vx_raw.specs.declared.place.Place.{Place}
 use Rattle.vx_arena.specs.Block.{Block, size, spelled, bytes_of, found, replaced}
 use Rattle.vx_arena.specs.Chunks.{Chunks, blocks_at, found_in, block_at, IsBlock, with_blocks, held_by}
-use Rattle.vx_arena.specs.Names.{name_of, place_of, none, block_of, named, IsNamed, one_if, lives_in, lives, Changes}
+use Rattle.vx_arena.specs.Names.{place_of, block_of, named, IsNamed, one_if, lives_in, lives, Changes}
 use Rattle.vx_arena.proofs.Cutting.{block_chunk, found_again}
 use Rattle.vx_arena.proofs.Spelling.{length-spelled}
 use Rattle.vx_arena.proofs.Surviving.{others_found}

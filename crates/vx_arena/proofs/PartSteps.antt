@@ -1,20 +1,19 @@
 -- One part more in an arena, or one fewer.
-use Rattle.std.proofs.Common.{inl, inr, ◌≡◌, ◌≢◌, ◌⊎◌, ℕ, ◌+◌, ◌-◌, ◌*◌, ◌%◌, ◌^◌, ◌<◌, ◌≤◌, Option, Some, None, List, [], ◌∷◌, ◌++◌, length, take, drop, refl, sym, ap, ◌∙◌, subst, arith, w64}
-use Rattle.std.specs.Int.{to_le_bytes, from_le_bytes}
-use Rattle.std.proofs.lemmas.Bool.{cases_eq}
-use Rattle.std.proofs.lemmas.List.{append_assoc, take_at}
+use Rattle.std.proofs.Common.{◌≡◌, ◌≢◌, ℕ, ◌+◌, ◌^◌, ◌<◌, ◌≤◌, Some, None, List, length, take, drop, refl, sym, ap, ◌∙◌, arith, w64}
+use Rattle.std.specs.Int.{to_le_bytes}
+use Rattle.std.proofs.lemmas.List.{take_at}
 use Rattle.std.proofs.lemmas.Nat.{from_le_bytes-to_le_bytes_8}
 use Rattle.vx_raw.specs.Region.{written}
-use Rattle.vx_arena.specs.Chunks.{Chunks, held_by}
-use Rattle.vx_arena.specs.Names.{none, named, live_at, len_at, lives}
+use Rattle.vx_arena.specs.Chunks.{Chunks}
+use Rattle.vx_arena.specs.Names.{none, named, live_at, lives}
 use Rattle.vx_arena.specs.Free.{class_len, next_in, IsLive, Frees, Writes}
 use Rattle.vx_arena.specs.Part.{class_for, IsSpare, Takes, Pays}
-use Rattle.vx_arena.specs.Text.{ArenaModel, more, block_bytes, payload_at, StandsLive, next_at, IsUnnamed, IsChained, IsArena, CanFollow, AddsPart, GivesPart}
+use Rattle.vx_arena.specs.Text.{more, block_bytes, payload_at, StandsLive, next_at, IsUnnamed, IsArena, CanFollow, AddsPart, GivesPart}
 use Rattle.vx_arena.proofs.Heads.{length-written}
 use Rattle.vx_arena.proofs.Effects.{live_again}
 use Rattle.vx_arena.proofs.Parts.{class_for_below, class_for_holds}
 use Rattle.vx_arena.proofs.Paying.{pays_kept, pays_then, pays_cost, pays_takes}
-use Rattle.vx_arena.proofs.Chaining.{payload_from, stands_from, same_payload, stands_kept, live_stands, named_payload, apart_from, chained_more, unnamed_more, chained_less, unnamed_less}
+use Rattle.vx_arena.proofs.Chaining.{payload_from, stands_from, named_payload, apart_from, chained_more, unnamed_more, chained_less, unnamed_less}
 
 -- a payload with a link and a part
 abbrev linked : List ℕ → ℕ → List ℕ
@@ -75,8 +74,8 @@ module _ (a m w d : Chunks) (name next class : ℕ) (part link : List ℕ) (few 
       spare_again x y p live wrote n l s =
           let ne : n ≡ name → ⊥ = λ e. gone_live x n e s.free live in
           record { free = wrote.others n ne ∙ s.free; long = wrote.lens n ∙ s.long } where
-        gone_live : (x : Chunks) (n : ℕ) → n ≡ name → live_at x n ≡ None → IsLive x name → ⊥
-        gone_live x n e gone live = apart_from x name n (stands_from x name (named x name).payload live) gone (sym e)
+            gone_live : (x : Chunks) (n : ℕ) → n ≡ name → live_at x n ≡ None → IsLive x name → ⊥
+            gone_live x n e gone live = apart_from x name n (stands_from x name (named x name).payload live) gone (sym e)
 
       pays : Pays a d (block_bytes (length part))
       unfolding block_bytes

@@ -1,13 +1,13 @@
 -- By name: a block that is cut in two, and a new chunk.
-use Rattle.std.proofs.Common.{inl, inr, ◌≡◌, ◌≢◌, ◌⊎◌, ℕ, ◌+◌, ◌-◌, ◌*◌, ◌/◌, ◌%◌, ◌^◌, ◌<◌, ◌≤◌, Bool, true, false, Option, Some, None, List, [], ◌∷◌, ◌++◌, length, get_or, take, drop, replicate, refl, sym, ap, ◌∙◌, subst, arith}
+use Rattle.std.proofs.Common.{inl, inr, ◌≡◌, ℕ, ◌+◌, ◌-◌, ◌/◌, ◌%◌, ◌^◌, ◌<◌, ◌≤◌, false, Some, None, List, [], ◌∷◌, length, take, drop, replicate, refl, sym, ap, ◌∙◌, subst, arith}
 use Rattle.std.specs.List.{sum_by}
 use Rattle.std.proofs.lemmas.Bool.{cases_eq, cases_lt, cases_order}
 use Rattle.std.proofs.lemmas.List.{length-take-le, length-drop, length-set, length_push, length-replicate, get_or-set_same, get_or-set_other, get_or_append_left, get_or_push, get_or_past}
 use Rattle.std.proofs.lemmas.List.Sums.{sum_by-cons, sum_by_push}
 use Rattle.vx_raw.specs.declared.place.Place.{Place}
 use Rattle.vx_arena.specs.Block.{Block, size, bytes_of, found, replaced}
-use Rattle.vx_arena.specs.Chunks.{Chunks, blocks_at, found_in, block_at, IsBlock, with_blocks, with_chunk, halves, held_by}
-use Rattle.vx_arena.specs.Names.{name_of, place_of, none, block_of, named, IsNamed, one_if, lives_in, lives}
+use Rattle.vx_arena.specs.Chunks.{Chunks, blocks_at, found_in, block_at, with_blocks, with_chunk, halves, held_by}
+use Rattle.vx_arena.specs.Names.{name_of, place_of, block_of, named, IsNamed, one_if, lives_in, lives}
 use Rattle.vx_arena.specs.Free.{Splits, Adds}
 use Rattle.vx_arena.proofs.Cutting.{block_chunk}
 use Rattle.vx_arena.proofs.Naming.{same_name, held_with, lives_with, bytes_count, size_one, lives_one}
@@ -98,8 +98,8 @@ splits chunks after name rest len p is fits there inside within rest_is set =
       some = λ e. omega (arith, within, rest_is, fits, e);
       gone = gone;
       others = λ n ne ne_rest. ap (λ (v : Chunks). found_in v (place_of n)) set ∙ outside_found chunks p (place_of n) b c d here room
-        (λ chunk at. ne (same_name n name (chunk ∙ ap (λ (q : Place). q.chunk) is) (at ∙ ap (λ (q : Place). q.at) is)))
-        (λ chunk at. ne_rest (same_name n rest (chunk ∙ sym (ap (λ (q : Place). q.chunk) at_rest)) (at ∙ (sym moved ∙ sym (ap (λ (q : Place). q.at) at_rest)))));
+          (λ chunk at. ne (same_name n name (chunk ∙ ap (λ (q : Place). q.chunk) is) (at ∙ ap (λ (q : Place). q.at) is)))
+          (λ chunk at. ne_rest (same_name n rest (chunk ∙ sym (ap (λ (q : Place). q.chunk) at_rest)) (at ∙ (sym moved ∙ sym (ap (λ (q : Place). q.at) at_rest)))));
       count = ap lives set ∙ count;
       held = ap held_by set ∙ held_with chunks p b (c ∷ d ∷ []) here (size_two c d ∙ room);
       many = ap length set ∙ length-set chunks p.chunk (replaced (blocks_at chunks p.chunk) p.at (c ∷ d ∷ []));

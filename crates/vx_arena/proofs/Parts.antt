@@ -1,14 +1,14 @@
 -- Blocks for parts: found, cut, taken.
-use Rattle.std.proofs.Common.{inl, inr, ◌≡◌, ◌≢◌, ◌⊎◌, ℕ, ◌+◌, ◌-◌, ◌*◌, ◌^◌, ◌<◌, ◌≤◌, Bool, true, false, Option, Some, None, List, [], ◌∷◌, length, refl, sym, ap, ◌∙◌, subst, arith, cond}
+use Rattle.std.proofs.Common.{inl, inr, ◌≡◌, ◌⊎◌, ℕ, ◌+◌, ◌-◌, ◌<◌, ◌≤◌, Bool, true, false, Option, Some, None, length, refl, sym, ap, ◌∙◌, subst, arith, cond}
 use Rattle.std.proofs.lemmas.Bool.{cases_eq, cases_lt}
 use Rattle.std.proofs.lemmas.Bool.Decides.{nat_tests}
 use Rattle.vx_arena.specs.Block.{Block}
-use Rattle.vx_arena.specs.Chunks.{Chunks, held_by}
-use Rattle.vx_arena.specs.Names.{none, block_of, named, IsNamed, live_in, live_at, len_in, len_at, lives}
+use Rattle.vx_arena.specs.Chunks.{Chunks}
+use Rattle.vx_arena.specs.Names.{none, block_of, named, live_in, live_at, len_in, len_at, lives}
 use Rattle.vx_arena.specs.Free.{class_len, class_of, IsLive, Frees, Wakes, Gives, HasNone, Grows, Halves}
-use Rattle.vx_arena.specs.Part.{class_for, IsSpare, HoldsNone, Lacks, Found, Added, Obtains, Rest, Trims, CutFrom, CutNew, Takes}
-use Rattle.vx_arena.proofs.Classes.{below_8, class_below, class_len_least, class_len_most, holds_class, class_holds}
-use Rattle.vx_arena.proofs.Effects.{live_again, len_some, len_none}
+use Rattle.vx_arena.specs.Part.{class_for, IsSpare, Lacks, Found, Added, Obtains, Rest, Trims, CutFrom, CutNew, Takes}
+use Rattle.vx_arena.proofs.Classes.{class_below, class_len_least, class_len_most, holds_class, class_holds}
+use Rattle.vx_arena.proofs.Effects.{live_again, len_some}
 use Rattle.vx_arena.proofs.Steps.{named_live}
 
 pub class_for_below : (bytes : ℕ) → class_for bytes < 8
@@ -63,13 +63,13 @@ pub lacks : (before now : Chunks) (class : ℕ) → class < 8 → NoneOf before 
 lacks before now class lt none same = record {
   same = same;
   none_of = λ name n spare.
-    let s : SpareBlock before name n = spare_block before name n spare in
-    elim (cases_lt n (class_len class)) as (λ _. n < class_len class) [
-      | inl less ↦ less
-      | inr ge ↦
-          let long : length s.block.payload ≡ n = s.long in
-          absurd (none (class_of (length s.block.payload)) (class_holds (length s.block.payload) class lt (omega (arith, long, ge))) (class_below (length s.block.payload)) name s.block s.is s.free refl)
-    ];
+      let s : SpareBlock before name n = spare_block before name n spare in
+      elim (cases_lt n (class_len class)) as (λ _. n < class_len class) [
+        | inl less ↦ less
+        | inr ge ↦
+            let long : length s.block.payload ≡ n = s.long in
+            absurd (none (class_of (length s.block.payload)) (class_holds (length s.block.payload) class lt (omega (arith, long, ge))) (class_below (length s.block.payload)) name s.block s.is s.free refl)
+      ];
 }
 
 pub gives_more : (before mid after : Chunks) (class i name : ℕ) → class ≤ i → i < 8 → mid ≡ before → Gives i mid after name → Gives class before after name

@@ -1,10 +1,10 @@
 -- How many chunks are made, by the bytes of the blocks that are taken.
-use Rattle.std.proofs.Common.{inl, inr, ◌≡◌, ◌⊎◌, ℕ, ◌+◌, ◌-◌, ◌*◌, ◌<◌, ◌≤◌, Option, Some, None, refl, sym, ap, ◌∙◌, subst, arith}
+use Rattle.std.proofs.Common.{inl, inr, ◌≡◌, ◌⊎◌, ℕ, ◌+◌, ◌-◌, ◌*◌, ◌<◌, ◌≤◌, Some, sym, ap, ◌∙◌, subst, arith}
 use Rattle.std.proofs.lemmas.Bool.{cases_eq}
 use Rattle.vx_arena.specs.Chunks.{Chunks, held_by}
-use Rattle.vx_arena.specs.Names.{live_at, len_at}
+use Rattle.vx_arena.specs.Names.{len_at}
 use Rattle.vx_arena.specs.Free.{class_len}
-use Rattle.vx_arena.specs.Part.{IsSpare, HoldsNone, Rest, CutFrom, CutNew, Takes, Paid, none_made, spare_left, all_paid, PaysMore, Pays}
+use Rattle.vx_arena.specs.Part.{IsSpare, CutFrom, CutNew, Takes, Paid, none_made, spare_left, all_paid, PaysMore, Pays}
 use Rattle.vx_arena.proofs.Classes.{class_len_most}
 
 -- so chunks are at most as many as the bytes taken say
@@ -85,4 +85,3 @@ pays_source class a d name lt t (inr f) made spent paid = let held : held_by d �
 
 pub pays_takes : (class : ℕ) (a d : Chunks) (name : ℕ) → class < 8 → Takes class a d name → Pays a d (8 + class_len class)
 pays_takes class a d name lt t = pays_source class a d name lt t t.source
-

@@ -1,12 +1,12 @@
 -- The first block of a list leaves it and is live.
-use Rattle.std.proofs.Common.{inl, inr, ◌≡◌, ◌≢◌, ◌⊎◌, ℕ, ◌+◌, ◌*◌, ◌^◌, ◌<◌, ◌≤◌, Bool, true, false, Some, None, List, [], ◌∷◌, length, get_or, set, refl, sym, ap, ◌∙◌, subst, arith}
-use Rattle.std.proofs.lemmas.Bool.{cases_eq, both_ways}
+use Rattle.std.proofs.Common.{inl, inr, ◌≡◌, ◌≢◌, ℕ, ◌*◌, ◌<◌, ◌≤◌, true, false, Some, None, List, [], ◌∷◌, length, get_or, set, refl, sym, ap, ◌∙◌, subst, arith}
+use Rattle.std.proofs.lemmas.Bool.{cases_eq}
 use Rattle.std.proofs.lemmas.List.{length-set}
 use Rattle.vx_arena.specs.Block.{Block}
-use Rattle.vx_arena.specs.Chunks.{Chunks, held_by}
-use Rattle.vx_arena.specs.Names.{none, block_of, named, IsNamed, Changes}
-use Rattle.vx_arena.specs.Free.{class_of, next_in, before_in, with_before, Node, first_of, IsLinked, IsIn, IsListed, SetsBefore}
-use Rattle.vx_arena.proofs.Linking.{not_found, named_from, found_named}
+use Rattle.vx_arena.specs.Chunks.{Chunks}
+use Rattle.vx_arena.specs.Names.{none, block_of, IsNamed, Changes}
+use Rattle.vx_arena.specs.Free.{class_of, next_in, before_in, Node, first_of, IsLinked, IsIn, IsListed, SetsBefore}
+use Rattle.vx_arena.proofs.Linking.{not_found, named_from}
 use Rattle.vx_arena.proofs.Relinking.{IsFree, same_block, frame, behind, rehead, head_class, Split, split_list, Was, was_some}
 use Rattle.vx_arena.proofs.Pushing.{with_list, with_list_same, with_list_other, same_heads, live_not_free, long_changed, long_was}
 

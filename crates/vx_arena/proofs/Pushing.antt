@@ -1,11 +1,11 @@
 -- A block that was live goes to the front of the list of its class.
-use Rattle.std.proofs.Common.{inl, inr, ◌≡◌, ◌≢◌, ◌⊎◌, ℕ, ◌+◌, ◌*◌, ◌^◌, ◌<◌, ◌≤◌, Bool, true, false, eqb, cond, Some, None, List, [], ◌∷◌, length, get_or, set, refl, sym, ap, ◌∙◌, subst, arith}
+use Rattle.std.proofs.Common.{inl, inr, ◌≡◌, ℕ, ◌*◌, ◌^◌, ◌<◌, ◌≤◌, true, false, eqb, cond, Some, None, List, [], ◌∷◌, length, get_or, set, refl, sym, ap, ◌∙◌, subst, arith}
 use Rattle.std.proofs.lemmas.Bool.{cases_eq, eq-eqb, ne_eqb, both_ways}
 use Rattle.std.proofs.lemmas.List.{get_or-set_same, get_or-set_other, length-set}
 use Rattle.vx_arena.specs.Block.{Block}
-use Rattle.vx_arena.specs.Chunks.{Chunks, held_by}
-use Rattle.vx_arena.specs.Names.{none, block_of, named, Changes}
-use Rattle.vx_arena.specs.Free.{class_of, next_in, before_in, with_links, with_before, Node, first_of, IsLinked, IsIn, IsListed, SetsBefore}
+use Rattle.vx_arena.specs.Chunks.{Chunks}
+use Rattle.vx_arena.specs.Names.{none, block_of, Changes}
+use Rattle.vx_arena.specs.Free.{class_of, with_links, Node, first_of, IsLinked, IsIn, IsListed, SetsBefore}
 use Rattle.vx_arena.proofs.Classes.{class_below}
 use Rattle.vx_arena.proofs.Linking.{not_found, next_of_links, before_of_links, length-with_links}
 use Rattle.vx_arena.proofs.Relinking.{IsFree, same_block, frame, rehead, head_class, Was, was_some}
@@ -83,14 +83,17 @@ module _ (a c d : Chunks) (heads : List ℕ) (name class next : ℕ) (b : Block)
   linked_other i lt ne = frame c d next i none (listed.lists i) (linked_mid i lt) sets.others (λ x at free here. ne (sym here ∙ head_class c class none next (listed.lists class) (linked_mid class lt8) next_first none_mid x at))
 
   linked_own : IsLinked d class none (name ∷ listed.lists class)
-  linked_own = (record {
-    block = record { live = false; payload = with_links b.payload next none };
-    is = sets.others name name_not_next ∙ put.there;
-    free = refl;
-    of_class = ap class_of new_len ∙ sym class_is;
-    next_is = next_of_links b.payload next none next_fits ∙ next_first;
-    before_is = before_of_links b.payload next none (omega arith);
-  }, rehead c d class none name (listed.lists class) (linked_mid class lt8) (subst (λ (k : ℕ). SetsBefore c d k name) next_first sets) (not_free_none c none_mid) long_mid fits)
+  linked_own = (
+    record {
+      block = record { live = false; payload = with_links b.payload next none };
+      is = sets.others name name_not_next ∙ put.there;
+      free = refl;
+      of_class = ap class_of new_len ∙ sym class_is;
+      next_is = next_of_links b.payload next none next_fits ∙ next_first;
+      before_is = before_of_links b.payload next none (omega arith);
+    },
+    rehead c d class none name (listed.lists class) (linked_mid class lt8) (subst (λ (k : ℕ). SetsBefore c d k name) next_first sets) (not_free_none c none_mid) long_mid fits,
+  )
 
   all_there : (n : ℕ) (x : Block) → block_of d n ≡ Some x → x.live ≡ false → IsIn (with_list listed.lists class (name ∷ listed.lists class) (class_of (length x.payload))) n
   all_there n x at free =

@@ -1,10 +1,10 @@
 -- Lists of free blocks, after blocks changed.
-use Rattle.std.proofs.Common.{inl, inr, ◌≡◌, ◌≢◌, ◌⊎◌, ℕ, ◌+◌, ◌*◌, ◌^◌, ◌<◌, ◌≤◌, Bool, true, false, eqb, cond, Option, Some, None, List, [], ◌∷◌, length, get_or, set, refl, sym, ap, ◌∙◌, subst, arith}
-use Rattle.std.proofs.lemmas.Bool.{cases_eq, eq-eqb, ne_eqb, both_ways}
+use Rattle.std.proofs.Common.{inl, inr, ◌≡◌, ◌≢◌, ℕ, ◌^◌, ◌<◌, ◌≤◌, false, Option, Some, None, List, [], ◌∷◌, length, refl, sym, ap, ◌∙◌, subst}
+use Rattle.std.proofs.lemmas.Bool.{cases_eq}
 use Rattle.vx_arena.specs.Block.{Block}
 use Rattle.vx_arena.specs.Chunks.{Chunks}
-use Rattle.vx_arena.specs.Names.{none, block_of, named, Changes}
-use Rattle.vx_arena.specs.Free.{class_of, next_in, before_in, with_links, with_before, Node, first_of, IsLinked, IsIn, IsListed, SetsBefore}
+use Rattle.vx_arena.specs.Names.{none, block_of}
+use Rattle.vx_arena.specs.Free.{class_of, before_in, with_before, Node, first_of, IsLinked, SetsBefore}
 use Rattle.vx_arena.proofs.Linking.{not_found, next_kept, before_of_before, length-with_before}
 
 -- a free block stands there
@@ -46,15 +46,17 @@ rehead c d class p q (m ∷ rest) linked sets first long fits =
     let node : Node c class p m (first_of rest) = linked.0 in
     let b : Block = node.block in
     let enough : 16 ≤ length b.payload = long m b node.is in
-    let same : length (with_before b.payload q) ≡ length b.payload = length-with_before b.payload q enough in
-    (record {
-      block = record { live = b.live; payload = with_before b.payload q };
-      is = sets.there b node.is;
-      free = node.free;
-      of_class = ap class_of same ∙ node.of_class;
-      next_is = next_kept b.payload q enough ∙ node.next_is;
-      before_is = before_of_before b.payload q enough fits;
-    }, behind c d m class m b rest linked.1 (record { block = b; is = node.is; free = node.free }) sets.others node.is (λ f. first (subst (λ (k : ℕ). IsFree c k) node.before_is f)))
+    let same : length (with_before b.payload q) ≡ length b.payload = length-with_before b.payload q enough in (
+      record {
+        block = record { live = b.live; payload = with_before b.payload q };
+        is = sets.there b node.is;
+        free = node.free;
+        of_class = ap class_of same ∙ node.of_class;
+        next_is = next_kept b.payload q enough ∙ node.next_is;
+        before_is = before_of_before b.payload q enough fits;
+      },
+      behind c d m class m b rest linked.1 (record { block = b; is = node.is; free = node.free }) sets.others node.is (λ f. first (subst (λ (k : ℕ). IsFree c k) node.before_is f)),
+    )
 
 -- the first of a list is of its class
 pub head_class : (c : Chunks) (class before next : ℕ) (list : List ℕ) → IsLinked c class before list → next ≡ first_of list → block_of c none ≡ None → (b : Block) → block_of c next ≡ Some b → class_of (length b.payload) ≡ class
@@ -88,11 +90,11 @@ was_some c d x v sets long n b is = elim (cases_eq n x) as (λ _. Was c n b) [
   here : (o : Option Block) → block_of c x ≡ o → n ≡ x → Was c n b
   here None gone e = absurd (not_found d n b (ap (block_of d) e ∙ sets.gone gone) is)
   here (Some b0) at e =
-    let now : block_of d n ≡ Some (record { live = b0.live; payload = with_before b0.payload v }) = ap (block_of d) e ∙ sets.there b0 at in
-    let one : record { live = b0.live; payload = with_before b0.payload v } ≡ b = same_block d n (record { live = b0.live; payload = with_before b0.payload v }) b now is in
-    record {
-      block = b0;
-      is = ap (block_of c) e ∙ at;
-      live = ap (λ (y : Block). y.live) one;
-      len = sym (length-with_before b0.payload v (long x b0 at)) ∙ ap (λ (y : Block). length y.payload) one;
-    }
+      let now : block_of d n ≡ Some (record { live = b0.live; payload = with_before b0.payload v }) = ap (block_of d) e ∙ sets.there b0 at in
+      let one : record { live = b0.live; payload = with_before b0.payload v } ≡ b = same_block d n (record { live = b0.live; payload = with_before b0.payload v }) b now is in
+      record {
+        block = b0;
+        is = ap (block_of c) e ∙ at;
+        live = ap (λ (y : Block). y.live) one;
+        len = sym (length-with_before b0.payload v (long x b0 at)) ∙ ap (λ (y : Block). length y.payload) one;
+      }

@@ -1,8 +1,7 @@
 -- Without chunks there is no block, and each list is empty.
-use Rattle.std.proofs.Common.{suc, ◌≡◌, ℕ, ◌+◌, ◌%◌, ◌^◌, ◌<◌, ◌≤◌, Some, None, List, [], ◌∷◌, get_or, refl, sym, ap, ◌∙◌, subst, arith}
+use Rattle.std.proofs.Common.{◌≡◌, ℕ, ◌^◌, ◌<◌, None, List, [], ◌∷◌, get_or, refl, ap, ◌∙◌, arith}
 use Rattle.std.proofs.lemmas.List.{get_or_past}
 use Rattle.vx_arena.specs.Block.{Block, found}
-use Rattle.vx_arena.specs.Chunks.{Chunks}
 use Rattle.vx_arena.specs.Names.{none, place_of, block_of, live_in, live_at, lives}
 use Rattle.vx_arena.specs.Free.{IsListed}
 use Rattle.vx_arena.specs.Text.{IsArena}

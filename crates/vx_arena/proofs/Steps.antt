@@ -1,16 +1,16 @@
 -- A block leaves the list of its class, or goes to its front.
-use Rattle.std.proofs.Common.{inl, inr, ◌≡◌, ◌≢◌, ◌⊎◌, ℕ, ◌+◌, ◌*◌, ◌^◌, ◌<◌, ◌≤◌, Bool, true, false, Option, Some, None, List, [], ◌∷◌, length, get_or, set, refl, sym, ap, ◌∙◌, subst, arith}
+use Rattle.std.proofs.Common.{inl, inr, ◌≡◌, ◌≢◌, ℕ, ◌+◌, ◌^◌, ◌<◌, ◌≤◌, true, false, Some, None, List, [], ◌∷◌, length, get_or, set, refl, sym, ap, ◌∙◌, subst, arith}
 use Rattle.std.proofs.lemmas.Bool.{cases_eq}
 use Rattle.vx_arena.specs.Block.{Block}
-use Rattle.vx_arena.specs.Chunks.{Chunks, held_by}
-use Rattle.vx_arena.specs.Names.{none, block_of, named, IsNamed, live_at, len_at, one_if, lives, Changes}
-use Rattle.vx_arena.specs.Free.{class_len, class_of, next_in, with_before, with_links, Node, first_of, IsLinked, IsListed, SetsBefore, IsLive, Frees, Wakes, Gives, HasNone}
+use Rattle.vx_arena.specs.Chunks.{Chunks}
+use Rattle.vx_arena.specs.Names.{none, block_of, named, IsNamed, one_if, lives, Changes}
+use Rattle.vx_arena.specs.Free.{class_len, class_of, next_in, with_links, Node, first_of, IsLinked, IsListed, SetsBefore, IsLive, Frees, Gives, HasNone}
 use Rattle.vx_arena.proofs.Classes.{class_below, holds_class}
 use Rattle.vx_arena.proofs.Linking.{not_found, named_from, found_named, length-with_links}
-use Rattle.vx_arena.proofs.Relinking.{IsFree, same_block, Split, head_class}
+use Rattle.vx_arena.proofs.Relinking.{same_block}
 use Rattle.vx_arena.proofs.Pushing.{pushed, long_changed, not_head}
 use Rattle.vx_arena.proofs.Popping.{cut, linked_list, head_node, next_there, next_other, no_head, popped}
-use Rattle.vx_arena.proofs.Effects.{live_some, live_none, Living, living, is_live, same_live, changed_len, sets_live, sets_len, changed_twice, named_moved, long_named}
+use Rattle.vx_arena.proofs.Effects.{live_none, Living, living, is_live, same_live, changed_len, sets_live, sets_len, changed_twice, named_moved, long_named}
 
 -- a class without a list
 pub bare : (a now : Chunks) (heads : List ℕ) (class : ℕ) → IsListed a heads → class < 8 → get_or heads class 0 ≡ none → a ≡ now → HasNone class now now
@@ -132,7 +132,7 @@ module _ (a : Chunks) (heads : List ℕ) (name class : ℕ) (listed : IsListed a
 
     freed : Changes a c name (record { live = false; payload = with_links (named a name).payload (get_or heads class 0) none })
     freed = subst (λ (p : List ℕ). Changes a c name (record { live = false; payload = p })) (ap (λ (b : Block). b.payload) (found_named m name (record { live = (named a name).live; payload = with_links (named a name).payload (get_or heads class 0) none }) linked.there))
-      (changed_twice a m c name (record { live = (named a name).live; payload = with_links (named a name).payload (get_or heads class 0) none }) (record { live = false; payload = (named m name).payload }) linked marked)
+        (changed_twice a m c name (record { live = (named a name).live; payload = with_links (named a name).payload (get_or heads class 0) none }) (record { live = false; payload = (named m name).payload }) linked marked)
 
     new_long : length (with_links (named a name).payload (get_or heads class 0) none) ≡ length (named a name).payload
     new_long = length-with_links (named a name).payload (get_or heads class 0) none live_long

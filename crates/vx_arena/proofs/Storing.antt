@@ -1,18 +1,18 @@
 -- A text is put into blocks, its last part first.
-use Rattle.std.proofs.Common.{inl, inr, ◌≡◌, ◌≢◌, ◌⊎◌, zero, suc, ℕ, ◌+◌, ◌-◌, ◌*◌, ◌/◌, ◌%◌, ◌^◌, ◌<◌, ◌≤◌, false, eqb, Result, Ok, Err, IfErr, Some, None, List, [], ◌∷◌, ◌++◌, length, take, drop, min, refl, sym, ap, ◌∙◌, subst, arith}
-use Rattle.std.specs.List.{flat_map}
+use Rattle.std.proofs.Common.{inl, inr, ◌≡◌, ◌⊎◌, suc, ℕ, ◌+◌, ◌-◌, ◌*◌, ◌/◌, ◌^◌, ◌<◌, ◌≤◌, false, eqb, Result, Ok, Err, IfErr, None, List, [], ◌∷◌, ◌++◌, length, take, drop, min, refl, sym, ap, ◌∙◌, subst, arith}
 use Rattle.std.proofs.lemmas.Bool.{cases_eq, cases_lt, eqb-false, ne_eqb}
-use Rattle.std.proofs.lemmas.List.{append-nil, append_assoc, nil_from_length, length-append, length-take-le, length-drop, take-append-drop, take-take}
+use Rattle.std.proofs.lemmas.List.{append-nil, nil_from_length, length-append, length-take-le, length-drop, take-append-drop, take-take}
 use Rattle.std.proofs.lemmas.List.Concat.{flat_map-cons}
 use Rattle.std.proofs.Math.Seq.{take-append-add, take-length}
-use Rattle.vx_arena.specs.Chunks.{Chunks, held_by}
+use Rattle.vx_arena.specs.Chunks.{Chunks}
 use Rattle.vx_arena.specs.Names.{none, live_at, lives}
-use Rattle.vx_arena.specs.Free.{IsIn, class_len}
-use Rattle.vx_arena.specs.Part.{class_for, IsSpare, Paid, none_made, spare_left, all_paid, PaysMore, Pays}
-use Rattle.vx_arena.specs.Text.{ArenaModel, more, payload_at, StandsLive, next_at, part_at, Stands, IsChain, bytes_in, IsUnnamed, CanFollow, AddsPart, blocks_of, block_bytes, cost_of, GivesText, GivesAll, TakesText, TakesNothing, HasChain, IsArena}
+use Rattle.vx_arena.specs.Free.{IsIn}
+use Rattle.vx_arena.specs.Part.{Paid, none_made, spare_left, all_paid, PaysMore, Pays}
+use Rattle.vx_arena.specs.Text.{ArenaModel, more, payload_at, next_at, part_at, bytes_in, CanFollow, AddsPart, blocks_of, block_bytes, cost_of, GivesText, GivesAll, TakesText, TakesNothing, HasChain, IsArena}
 use Rattle.vx_arena.proofs.Paying.{pays_so, pays_kept, pays_then, pays_cost}
 use Rattle.vx_arena.proofs.Chaining.{apart_from}
-use Rattle.vx_arena.proofs.Chains.{chain_from, chain_none, chain_live, SameChain, chain_kept, has_live}
+use Rattle.vx_arena.proofs.Texts.{is_in}
+use Rattle.vx_arena.proofs.Chains.{chain_from, chain_live, SameChain, chain_kept, has_live}
 
 -- a text's first part and the rest
 pub record Cut (text part rest : List ℕ) : Type 0 where
@@ -124,19 +124,6 @@ reads_full payload part rest bytes n holds full is later =
 reads_last : (payload part : List ℕ) → take (length part) (drop 8 payload) ≡ part → length part ≤ 2040 → take (length part) (take 2040 (drop 8 payload) ++ []) ≡ part
 reads_last payload part holds most =
     ap (take (length part)) (append-nil (take 2040 (drop 8 payload))) ∙ (take-take (length part) 2040 (drop 8 payload) most ∙ holds)
-
-is_in : (names : List ℕ) (n : ℕ) → IsIn names n ⊎ (IsIn names n → ⊥)
-is_in [] n = inr (λ there. there)
-is_in (m ∷ rest) n = elim (cases_eq n m) as (λ _. IsIn (m ∷ rest) n ⊎ (IsIn (m ∷ rest) n → ⊥)) [
-  | inl e ↦ inl (inl e)
-  | inr ne ↦ elim (is_in rest n) as (λ _. IsIn (m ∷ rest) n ⊎ (IsIn (m ∷ rest) n → ⊥)) [
-    | inl there ↦ inl (inr there)
-    | inr away ↦ inr (λ there. elim there as (λ _. ⊥) [
-      | inl e ↦ ne e
-      | inr later ↦ away later
-    ])
-  ]
-]
 
 module _ (a m d : ArenaModel) (text part rest : List ℕ) (name next : ℕ) (c : Cut text part rest) (t : TakesText a m next rest) (p : AddsPart m d name next part) where
   all_long : length text ≡ length part + length rest

@@ -1,15 +1,14 @@
 -- Texts at places: what is read there, and that they stay where other texts come and go.
-use Rattle.std.proofs.Common.{inl, inr, ◌≡◌, ◌≢◌, ◌⊎◌, zero, suc, ℕ, ◌+◌, ◌-◌, ◌*◌, ◌/◌, ◌%◌, ◌^◌, ◌<◌, ◌≤◌, true, false, eqb, cond, Some, None, List, [], ◌∷◌, ◌++◌, length, take, drop, refl, sym, ap, ◌∙◌, subst, arith}
-use Rattle.std.specs.List.{flat_map}
+use Rattle.std.proofs.Common.{inl, inr, ◌≡◌, ◌≢◌, ◌⊎◌, zero, suc, ℕ, ◌/◌, ◌%◌, ◌^◌, ◌<◌, ◌≤◌, List, [], ◌∷◌, ◌++◌, length, take, refl, sym, ap, ◌∙◌, subst, arith}
 use Rattle.std.proofs.lemmas.Bool.{cases_eq, eq-eqb, ne_eqb}
 use Rattle.std.proofs.lemmas.List.Concat.{flat_map-cons}
 use Rattle.vx_raw.specs.declared.place.Place.{Place}
 use Rattle.vx_arena.specs.Chunks.{Chunks}
-use Rattle.vx_arena.specs.Names.{name_of, place_of, none, live_at, lives}
+use Rattle.vx_arena.specs.Names.{name_of, place_of, none, live_at}
 use Rattle.vx_arena.specs.Free.{IsIn}
-use Rattle.vx_arena.specs.Text.{ArenaModel, payload_at, StandsLive, next_at, part_at, Stands, IsChain, bytes_in, bytes_from, bytes_at, Reads, IsUnnamed, IsChained, HasText, IsText, blocks_of, TakesText, TakesNothing, GivesText, GivesAll, HasChain, StaysText, KeepsTexts, KeepsOthers}
+use Rattle.vx_arena.specs.Text.{ArenaModel, StandsLive, next_at, part_at, IsChain, bytes_in, bytes_from, Reads, IsUnnamed, IsChained, HasText, IsText, blocks_of, TakesText, TakesNothing, GivesText, GivesAll, HasChain, StaysText, KeepsTexts, KeepsOthers, IsNew}
 use Rattle.vx_arena.proofs.Chaining.{same_next, stands_kept, apart_from, not_gone}
-use Rattle.vx_arena.proofs.Chains.{chain_from, chain_none, chain_live, SameChain, chain_kept}
+use Rattle.vx_arena.proofs.Chains.{chain_none, chain_live, SameChain, chain_kept}
 
 bytes_none : (most : ℕ) (c : Chunks) (name : ℕ) → name ≡ none → bytes_from most c name ≡ []
 unfolding bytes_from
@@ -89,7 +88,7 @@ chain_next c first (n ∷ rest) chain k there = elim there as (λ _. (next_at c 
   head_next [] e = inl e
   head_next (m ∷ more) chain = inr (inr (inl chain.0.is))
 
-is_in : (names : List ℕ) (n : ℕ) → IsIn names n ⊎ (IsIn names n → ⊥)
+pub is_in : (names : List ℕ) (n : ℕ) → IsIn names n ⊎ (IsIn names n → ⊥)
 is_in [] n = inr (λ there. there)
 is_in (m ∷ rest) n = elim (cases_eq n m) as (λ _. IsIn (m ∷ rest) n ⊎ (IsIn (m ∷ rest) n → ⊥)) [
   | inl e ↦ inl (inl e)
@@ -115,9 +114,24 @@ takes_keeps a d first text t p i =
       ]
       | inr away ↦ i.text.first n (stands_kept d.chunks a.chunks n (sym (t.others n away)) stands) (sym (same_next a.chunks d.chunks n (t.others n away)) ∙ to)
     ]) where
-  first_live : (names : List ℕ) → IsChain a.chunks (name_of p) names → StandsLive a.chunks (name_of p)
-  first_live [] chain = absurd (i.text.some chain)
-  first_live (n ∷ rest) chain = subst (λ (x : ℕ). StandsLive a.chunks x) (sym chain.0.is) chain.0.live
+      first_live : (names : List ℕ) → IsChain a.chunks (name_of p) names → StandsLive a.chunks (name_of p)
+      first_live [] chain = absurd (i.text.some chain)
+      first_live (n ∷ rest) chain = subst (λ (x : ℕ). StandsLive a.chunks x) (sym chain.0.is) chain.0.live
+
+text_live : (c : Chunks) (name : ℕ) (names : List ℕ) → name ≢ none → IsChain c name names → StandsLive c name
+text_live c name [] some chain = absurd (some chain)
+text_live c name (n ∷ rest) some chain = subst (λ (x : ℕ). StandsLive c x) (sym chain.0.is) chain.0.live
+
+first_in : (c : Chunks) (first : ℕ) (names : List ℕ) → 0 < length names → IsChain c first names → IsIn names first
+first_in c first [] some chain = absurd (omega arith)
+first_in c first (n ∷ rest) some chain = inl chain.0.is
+
+-- and stands where none stood
+pub stored_new : (a d : ArenaModel) (first : ℕ) (text : List ℕ) (p : Place) → 13 ≤ length text → p ≡ place_of first → TakesText a d first text → IsNew a p
+stored_new a d first text p least is t other i e =
+    let count : length t.names ≡ blocks_of (length text) = t.blocks in
+    let there : IsIn t.names first = first_in d.chunks first t.names (omega (arith, count, least)) t.chain in
+    apart_from a.chunks (name_of other) first (text_live a.chunks (name_of other) i.text.names i.text.some i.text.chain) (t.fresh first there) (e ∙ name_back first p is)
 
 pub nothing_keeps : (a d : ArenaModel) (text : List ℕ) → TakesNothing a d text → KeepsTexts a d
 nothing_keeps a d text t p i = kept_text a d p i (λ n there. t.same n) (λ n stands to. i.text.first n (stands_kept d.chunks a.chunks n (sym (t.same n)) stands) (sym (same_next a.chunks d.chunks n (t.same n)) ∙ to))

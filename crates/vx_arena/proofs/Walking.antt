@@ -1,12 +1,12 @@
 -- The loops that go along a chain.
-use Rattle.std.proofs.Common.{inl, inr, ◌≡◌, ◌≢◌, ◌⊎◌, zero, suc, ℕ, ◌+◌, ◌-◌, ◌*◌, ◌^◌, ◌<◌, ◌≤◌, Bool, true, false, eqb, IsTrue, ◌↔◌, Some, None, List, [], ◌∷◌, ◌++◌, length, take, drop, min, refl, sym, ap, ◌∙◌, subst, arith}
+use Rattle.std.proofs.Common.{inl, inr, ◌≡◌, ◌≢◌, zero, suc, ℕ, ◌+◌, ◌-◌, ◌≤◌, Bool, false, eqb, IsTrue, ◌↔◌, List, [], ◌∷◌, ◌++◌, length, take, drop, min, refl, sym, ap, ◌∙◌, subst, arith}
 use Rattle.std.proofs.lemmas.Bool.{cases_lt, eqb-true, eq-eqb, both_ways}
 use Rattle.std.proofs.lemmas.List.{append-nil, append_assoc, nil_from_length, take_min, take_at, drop_at, take-append-le, take-append-drop, length-take, length-drop}
 use Rattle.std.proofs.lemmas.List.Concat.{flat_map-cons}
 use Rattle.std.proofs.Math.Seq.{take-length, drop-length, take-append-add}
 use Rattle.vx_arena.specs.Chunks.{Chunks}
 use Rattle.vx_arena.specs.Names.{none}
-use Rattle.vx_arena.specs.Text.{payload_at, StandsLive, next_at, part_at, Stands, IsChain, bytes_in, bytes_from, HasText}
+use Rattle.vx_arena.specs.Text.{StandsLive, next_at, part_at, IsChain, bytes_in, bytes_from, HasText}
 use Rattle.vx_arena.proofs.Chains.{chain_from, chain_none}
 use Rattle.vx_arena.proofs.Texts.{text_bytes}
 
@@ -49,37 +49,60 @@ further c name done (n ∷ rest) chain few some =
       bytes = flat_map-cons (part_at c) n rest ∙ ap (λ (k : ℕ). part_at c k ++ bytes_in c rest) here;
     }
 
--- what was read so far
-pub record ReadSoFar (c : Chunks) (old into : List ℕ) (first name done : ℕ) : Type 0 where
+-- what was read so far, and how many bytes are due
+pub record ReadSoFar (c : Chunks) (old into : List ℕ) (len due first name done : ℕ) : Type 0 where
   pub left : Left c name done
-  pub all : into ++ bytes_in c left.rest ≡ old ++ bytes_from 33 c first
+  pub all : into ++ take due (bytes_in c left.rest) ≡ old ++ take len (bytes_from 33 c first)
   pub kept : take (length old) into ≡ old
 
-pub read_start : (c : Chunks) (old : List ℕ) (first : ℕ) → HasText c first → ReadSoFar c old old first first 0
-read_start c old first h = record {
+pub read_start : (c : Chunks) (old : List ℕ) (len first : ℕ) → HasText c first → ReadSoFar c old old len len first first 0
+read_start c old len first h = record {
   left = record { rest = h.names; chain = h.chain; few = let few : length h.names ≤ 33 = h.few in omega (arith, few) };
-  all = ap (λ (x : List ℕ). old ++ x) (sym (text_bytes c first h));
+  all = ap (λ (x : List ℕ). old ++ take len x) (sym (text_bytes c first h));
   kept = take-length old;
 }
 
-read_done : (c : Chunks) (old into : List ℕ) (first name done : ℕ) (r : ReadSoFar c old into first name done) → r.left.rest ≡ [] → into ≡ old ++ bytes_from 33 c first
-read_done c old into first name done r e = sym (append-nil into) ∙ (ap (λ (l : List ℕ). into ++ bytes_in c l) (sym e) ∙ r.all)
+take_nil : (n : ℕ) → ◌≡◌ {A = List ℕ} (take n []) []
+take_nil zero = refl
+take_nil (suc n) = refl
 
-pub read_end : (c : Chunks) (old into : List ℕ) (first name done : ℕ) → ReadSoFar c old into first name done → name ≡ none → into ≡ old ++ bytes_from 33 c first
-read_end c old into first name done r e = read_done c old into first name done r (left_none c name done r.left e)
+read_done : (c : Chunks) (old into : List ℕ) (len due first name done : ℕ) (r : ReadSoFar c old into len due first name done) → r.left.rest ≡ [] → into ≡ old ++ take len (bytes_from 33 c first)
+read_done c old into len due first name done r e =
+    let none_left : take due (bytes_in c r.left.rest) ≡ [] = ap (λ (l : List ℕ). take due (bytes_in c l)) e ∙ take_nil due in
+    sym (append-nil into) ∙ (ap (λ (x : List ℕ). into ++ x) (sym none_left) ∙ r.all)
 
-pub read_over : (c : Chunks) (old into : List ℕ) (first name done : ℕ) → ReadSoFar c old into first name done → 33 ≤ done → into ≡ old ++ bytes_from 33 c first
-read_over c old into first name done r ge = read_done c old into first name done r (left_over c name done r.left ge)
+pub read_end : (c : Chunks) (old into : List ℕ) (len due first name done : ℕ) → ReadSoFar c old into len due first name done → name ≡ none → into ≡ old ++ take len (bytes_from 33 c first)
+read_end c old into len due first name done r e = read_done c old into len due first name done r (left_none c name done r.left e)
 
-pub read_more : (c : Chunks) (old into : List ℕ) (first name done : ℕ) → ReadSoFar c old into first name done → name ≢ none → ReadSoFar c old (into ++ part_at c name) first (next_at c name) (done + 1)
-read_more c old into first name done r some =
+pub read_over : (c : Chunks) (old into : List ℕ) (len due first name done : ℕ) → ReadSoFar c old into len due first name done → 33 ≤ done → into ≡ old ++ take len (bytes_from 33 c first)
+read_over c old into len due first name done r ge = read_done c old into len due first name done r (left_over c name done r.left ge)
+
+-- so many bytes of a part and what is behind it
+take_parts : (part behind : List ℕ) (due count : ℕ) → count ≡ min (length part) due → take due (part ++ behind) ≡ take count part ++ take (due - count) behind
+take_parts part behind due count is = elim (cases_lt (length part) due) as (λ _. take due (part ++ behind) ≡ take count part ++ take (due - count) behind) [
+  | inl less ↦
+      let same : count ≡ length part = omega (arith, is, less) in
+      let split : due ≡ length part + (due - count) = omega (arith, is, less) in
+      let whole : take count part ≡ part = ap (λ (k : ℕ). take k part) same ∙ take-length part in
+      ap (λ (k : ℕ). take k (part ++ behind)) split ∙ (take-append-add part behind (due - count) ∙ ap (λ (x : List ℕ). x ++ take (due - count) behind) (sym whole))
+  | inr ge ↦
+      let same : count ≡ due = omega (arith, is, ge) in
+      let over : due - count ≡ 0 = omega (arith, same) in
+      take-append-le due part behind ge ∙ (ap (λ (k : ℕ). take k part) (sym same) ∙ (sym (append-nil (take count part)) ∙ ap (λ (k : ℕ). take count part ++ take k behind) (sym over)))
+]
+
+pub read_next : (c : Chunks) (old into now part : List ℕ) (len due first name next done count : ℕ) → ReadSoFar c old into len due first name done → name ≢ none → part ≡ part_at c name → count ≡ min (length part) due → now ≡ into ++ take count part → next ≡ next_at c name → ReadSoFar c old now len (due - count) first next (done + 1)
+read_next c old into now part len due first name next done count r some is least all to =
     let f : Further c name done r.left.rest = further c name done r.left.rest r.left.chain r.left.few some in
     let long : length old ≡ min (length old) (length into) = ap length (sym r.kept) ∙ length-take (length old) into in
-    record {
+    let here : bytes_in c r.left.rest ≡ part ++ bytes_in c f.left.rest = f.bytes ∙ ap (λ (x : List ℕ). x ++ bytes_in c f.left.rest) (sym is) in
+    let split : take due (bytes_in c r.left.rest) ≡ take count part ++ take (due - count) (bytes_in c f.left.rest) = ap (take due) here ∙ take_parts part (bytes_in c f.left.rest) due count least in
+    let r2 : ReadSoFar c old now len (due - count) first (next_at c name) (done + 1) = record {
       left = f.left;
-      all = append_assoc into (part_at c name) (bytes_in c f.left.rest) ∙ (ap (λ (x : List ℕ). into ++ x) (sym f.bytes) ∙ r.all);
-      kept = take-append-le (length old) into (part_at c name) (omega (arith, long)) ∙ r.kept;
-    }
+      all = ap (λ (x : List ℕ). x ++ take (due - count) (bytes_in c f.left.rest)) all ∙ (append_assoc into (take count part) (take (due - count) (bytes_in c f.left.rest)) ∙ (ap (λ (x : List ℕ). into ++ x) (sym split) ∙ r.all));
+      kept = ap (take (length old)) all ∙ (take-append-le (length old) into (take count part) (omega (arith, long)) ∙ r.kept);
+    } in
+    subst (λ (k : ℕ). ReadSoFar c old now len (due - count) first k (done + 1)) (sym to) r2
 
 -- a part and what is behind it, against a text
 record Matches (part behind text : List ℕ) (count : ℕ) : Type 0 where
@@ -103,11 +126,12 @@ matches_long part behind text count k is long =
     let left : length (drop count text) ≡ k = length-drop count text ∙ omega (arith, is, long) in
     record {
       both = λ e.
-        (let split : part ++ take k behind ≡ text = sym more ∙ e in
-        (whole ∙ (sym (take_at part (take k behind) count (sym is)) ∙ ap (take count) split),
-        ap (λ (n : ℕ). take n behind) left ∙ (sym (drop_at part (take k behind) count (sym is)) ∙ ap (drop count) split)));
+          (let split : part ++ take k behind ≡ text = sym more ∙ e in (
+            whole ∙ (sym (take_at part (take k behind) count (sym is)) ∙ ap (take count) split),
+            ap (λ (n : ℕ). take n behind) left ∙ (sym (drop_at part (take k behind) count (sym is)) ∙ ap (drop count) split),
+          ));
       from = λ one two. more ∙ (ap (λ (x : List ℕ). x ++ take k behind) (sym whole ∙ one)
-        ∙ (ap (λ (x : List ℕ). take count text ++ x) (ap (λ (n : ℕ). take n behind) (sym left) ∙ two) ∙ take-append-drop count text));
+          ∙ (ap (λ (x : List ℕ). take count text ++ x) (ap (λ (n : ℕ). take n behind) (sym left) ∙ two) ∙ take-append-drop count text));
     }
 
 matches : (part behind text : List ℕ) (count : ℕ) → count ≡ min (length part) (length text) → Matches part behind text count
@@ -131,18 +155,15 @@ compare_start c text first h =
       if_rest = λ e. ap (take (length text)) same ∙ e;
     }
 
-take_nil : (n : ℕ) → ◌≡◌ {A = List ℕ} (take n []) []
-take_nil zero = refl
-take_nil (suc n) = refl
-
 compare_done : (c : Chunks) (text rest : List ℕ) (first name done : ℕ) (s : ComparedSoFar c text rest first name done) → s.left.rest ≡ [] → (b : Bool) → b ≡ eqb (length rest) 0 → IsTrue b ↔ (take (length text) (bytes_from 33 c first) ≡ text)
-compare_done c text rest first name done s e b is =
-    (λ yes. s.if_rest (let nil : rest ≡ [] = nil_from_length rest (eqb-true (length rest) 0 (sym is ∙ yes)) in
+compare_done c text rest first name done s e b is = (
+  λ yes. s.if_rest (let nil : rest ≡ [] = nil_from_length rest (eqb-true (length rest) 0 (sym is ∙ yes)) in
       subst (λ (r : List ℕ). take (length r) (bytes_in c s.left.rest) ≡ r) (sym nil) refl),
-    λ same. is ∙ eq-eqb (length rest) 0 (ap length (sym (nothing_left (s.only same)))))
+  λ same. is ∙ eq-eqb (length rest) 0 (ap length (sym (nothing_left (s.only same)))),
+)
   where
-  nothing_left : take (length rest) (bytes_in c s.left.rest) ≡ rest → [] ≡ rest
-  nothing_left is = sym (ap (λ (l : List ℕ). take (length rest) (bytes_in c l)) e ∙ take_nil (length rest)) ∙ is
+    nothing_left : take (length rest) (bytes_in c s.left.rest) ≡ rest → [] ≡ rest
+    nothing_left is = sym (ap (λ (l : List ℕ). take (length rest) (bytes_in c l)) e ∙ take_nil (length rest)) ∙ is
 
 pub compare_end : (c : Chunks) (text rest : List ℕ) (first name done : ℕ) → ComparedSoFar c text rest first name done → name ≡ none → (b : Bool) → b ≡ eqb (length rest) 0 → IsTrue b ↔ (take (length text) (bytes_from 33 c first) ≡ text)
 compare_end c text rest first name done s e b is = compare_done c text rest first name done s (left_none c name done s.left e) b is
@@ -167,11 +188,6 @@ compare_less c text rest part first name done count s some is least apart e =
     let m : Matches part (bytes_in c f.left.rest) rest count = matches part (bytes_in c f.left.rest) rest count least in
     let here : bytes_in c s.left.rest ≡ part ++ bytes_in c f.left.rest = f.bytes ∙ ap (λ (x : List ℕ). x ++ bytes_in c f.left.rest) (sym is) in
     apart (m.both (ap (take (length rest)) (sym here) ∙ s.only e)).0
-
-pub read_next : (c : Chunks) (old into now part : List ℕ) (first name next done : ℕ) → ReadSoFar c old into first name done → name ≢ none → now ≡ into ++ part → part ≡ part_at c name → next ≡ next_at c name → ReadSoFar c old now first next (done + 1)
-read_next c old into now part first name next done r some all is to =
-    subst (λ (k : ℕ). ReadSoFar c old now first k (done + 1)) (sym to)
-    (subst (λ (l : List ℕ). ReadSoFar c old l first (next_at c name) (done + 1)) (sym (all ∙ ap (λ (x : List ℕ). into ++ x) is)) (read_more c old into first name done r some))
 
 pub compare_next : (c : Chunks) (text rest now part : List ℕ) (first name next done count : ℕ) → ComparedSoFar c text rest first name done → name ≢ none → part ≡ part_at c name → count ≡ min (length part) (length rest) → take count part ≡ take count rest → now ≡ drop count rest → next ≡ next_at c name → ComparedSoFar c text now first next (done + 1)
 compare_next c text rest now part first name next done count s some is least same behind to =

@@ -2,7 +2,7 @@
 use Rattle.std.specs.Prelude.{◌≡◌, ℕ, ◌+◌, ◌-◌, ◌*◌, ◌<◌, ◌≤◌, nat_le, Some, None, length, if◌then◌else◌, ◌⊎◌}
 use Rattle.vx_arena.specs.Chunks.{Chunks, held_by}
 use Rattle.vx_arena.specs.Names.{none, named, live_at, len_at, lives}
-use Rattle.vx_arena.specs.Free.{class_len, IsLive, Wakes}
+use Rattle.vx_arena.specs.Free.{class_len, IsLive}
 
 -- the least class that holds so many bytes
 unfoldable pub class_for : ℕ → ℕ

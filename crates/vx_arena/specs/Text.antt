@@ -3,7 +3,7 @@
 use Rattle.std.specs.Prelude.{◌≡◌, ◌≢◌, ℕ, zero, suc, ◌+◌, ◌-◌, ◌*◌, ◌/◌, ◌%◌, ◌^◌, ◌<◌, ◌≤◌, ◌==◌, Some, None, List, [], ◌∷◌, ◌++◌, length, take, drop, unwrap_or, if◌then◌else◌}
 use Rattle.std.specs.List.{flat_map}
 use Rattle.vx_raw.specs.declared.place.Place.{Place}
-use Rattle.vx_arena.specs.Chunks.{Chunks, held_by}
+use Rattle.vx_arena.specs.Chunks.{Chunks}
 use Rattle.vx_arena.specs.Names.{name_of, none, live_at, lives}
 use Rattle.vx_arena.specs.Free.{class_len, next_in, IsIn}
 use Rattle.vx_arena.specs.Part.{class_for, Pays}
@@ -179,3 +179,7 @@ KeepsTexts before after = (place : Place) → IsText before place → StaysText 
 -- and so is each but the one at this place
 abbrev pub KeepsOthers : ArenaModel → ArenaModel → Place → Type 0
 KeepsOthers before after gone = (place : Place) → IsText before place → (name_of place ≡ name_of gone → ⊥) → StaysText before after place
+
+-- no text is at this place
+abbrev pub IsNew : ArenaModel → Place → Type 0
+IsNew arena new = (place : Place) → IsText arena place → name_of place ≡ name_of new → ⊥

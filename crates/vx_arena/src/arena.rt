@@ -1,7 +1,7 @@
 ghost use Rattle.std.specs.Prelude.{◌≡◌, ◌≢◌, ◌+◌, ◌*◌, ◌^◌, ◌<◌, ◌≤◌, ◌↔◌, [], ◌++◌, IfOk, IfErr, OnErr, IsTrue, length, take, drop};
 ghost use Rattle.vx_arena.specs.Chunks.{held_by};
 ghost use Rattle.vx_arena.specs.Names.{name_of, none, lives};
-ghost use Rattle.vx_arena.specs.Text.{bytes_at, bytes_from, more, next_at, part_at, HasText, IsText, KeepsOthers, KeepsTexts, Reads, StandsLive, IsUnnamed, CanFollow, AddsPart, GivesPart, HasChain, GivesAll, TakesText, TakesNothing};
+ghost use Rattle.vx_arena.specs.Text.{bytes_at, bytes_from, more, next_at, part_at, HasText, IsNew, IsText, KeepsOthers, KeepsTexts, Reads, StandsLive, IsUnnamed, CanFollow, AddsPart, GivesPart, HasChain, GivesAll, TakesText, TakesNothing};
 
 use crate::free::FreeBlocks;
 use crate::links::{NONE, name, place};
@@ -75,6 +75,7 @@ impl Arena {
         requires least { 13 ≤ length text.now }
         requires most { length text.now ≤ 65535 }
         ensures ok { IfOk result (λ place. TakesText self.old self.new (name_of place) text.now) }
+        ensures fresh { IfOk result (λ place. IsNew self.old place) }
         ensures there { IfOk result (λ place. IsText self.new place) }
         ensures reads { IfOk result (λ place. Reads self.new place text.now) }
         ensures err { OnErr result (TakesNothing self.old self.new text.now) }
@@ -94,15 +95,15 @@ impl Arena {
         self.release(name(at));
     }
 
-    /// Adds the bytes of the chain at this place: those of its text, and behind them what fills the last block.
-    /// A text's length is its owner's to keep.
-    pub fn read_text(&self, at: Place, into: &mut Vec<u8>) -> Result<(), AllocError>
+    /// Adds so many bytes of the chain at this place. A text's length is its owner's to keep: behind the text
+    /// stands what fills the last block.
+    pub fn read_text(&self, at: Place, len: u64, into: &mut Vec<u8>) -> Result<(), AllocError>
         requires { IsText self.now at }
-        ensures ok { IfOk result (λ _. into.new.items ≡ into.old.items ++ bytes_at self.now at) }
+        ensures ok { IfOk result (λ _. into.new.items ≡ into.old.items ++ take len (bytes_at self.now at)) }
         ensures err { OnErr result (into.new.items ≡ into.old.items) }
     {
         let start = into.len();
-        match self.read_chain(name(at), into) {
+        match self.read_chain(name(at), len as usize, into) {
             Ok(()) => Ok(()),
             Err(error) => {
                 into.truncate(start);
@@ -111,7 +112,7 @@ impl Arena {
         }
     }
 
-    /// Whether the text at this place begins with this one.
+    /// Whether the text at this place begins with this one: it is the same where its owner knows that it is as long.
     pub fn equals(&self, at: Place, text: &[u8]) -> bool
         requires { IsText self.now at }
         ensures { IsTrue result ↔ Reads self.now at text.now }
@@ -207,18 +208,22 @@ impl Arena {
         self.blocks.next(name)
     }
 
-    /// Adds the bytes of the chain from this block on.
-    fn read_chain(&self, first: u64, into: &mut Vec<u8>) -> Result<(), AllocError>
+    /// Adds so many bytes of the chain from this block on.
+    fn read_chain(&self, first: u64, len: usize, into: &mut Vec<u8>) -> Result<(), AllocError>
         requires { HasText self.now.chunks first }
-        ensures ok { IfOk result (λ _. into.new.items ≡ into.old.items ++ bytes_from 33 self.now.chunks first) }
+        ensures ok { IfOk result (λ _. into.new.items ≡ into.old.items ++ take len (bytes_from 33 self.now.chunks first)) }
         ensures err { OnErr result (take (length into.old.items) into.new.items ≡ into.old.items) }
     {
         let mut name = first;
+        let mut due = len;
         for _block in 0..BLOCKS {
             if name == NONE {
                 return Ok(());
             }
-            into.extend_from_slice(self.part(name))?;
+            let part = self.part(name);
+            let count = part.len().min(due);
+            into.extend_from_slice(&part[..count])?;
+            due -= count;
             name = self.next(name);
         }
         Ok(())

@@ -7,7 +7,9 @@ fn the_longest_text_takes_33_blocks(rt: HostRuntime) -> Result<(), Fail> {
     let text = Vec::from_elem(rt.alloc(), 7u8, 65_535)?;
     let place = arena.take_text(&text)?;
     assert_eq!(rt; arena.taken(), 33);
-    assert!(rt; arena.equals(place, &text));
+    let mut read = Vec::new(rt.alloc());
+    arena.read_text(place, 65_535, &mut read)?;
+    assert!(rt; read == text);
     arena.give_text(place);
     assert_eq!(rt; arena.given(), 33);
     arena.take_text(&text)?;
@@ -17,13 +19,14 @@ fn the_longest_text_takes_33_blocks(rt: HostRuntime) -> Result<(), Fail> {
 }
 
 #[test]
-fn a_text_is_read_with_what_fills_its_block(rt: HostRuntime) -> Result<(), Fail> {
+fn so_many_bytes_are_read_as_are_wanted(rt: HostRuntime) -> Result<(), Fail> {
     let mut arena = Arena::new(rt.alloc());
     let place = arena.take_text(b"thirteen byte")?;
     let mut read = Vec::new(rt.alloc());
-    arena.read_text(place, &mut read)?;
-    assert_eq!(rt; read.len(), 24);
-    assert!(rt; read.starts_with(b"thirteen byte"));
+    arena.read_text(place, 13, &mut read)?;
+    assert_eq!(rt; read.as_slice(), b"thirteen byte".as_slice());
+    arena.read_text(place, 8, &mut read)?;
+    assert_eq!(rt; read.as_slice(), b"thirteen bytethirteen".as_slice());
     assert!(rt; !arena.equals(place, b"thirteen bits"));
     Ok(())
 }

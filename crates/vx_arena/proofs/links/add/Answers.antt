@@ -1,4 +1,4 @@
-use Rattle.std.proofs.Common.{◌≡◌, ◌^◌, ◌<◌, length, ◌∙◌, arith}
+use Rattle.std.proofs.Common.{◌≡◌, length, ◌∙◌, arith}
 use Rattle.vx_arena.proofs.Parting.{adds}
 use Rattle.vx_arena.proofs.links.add.Goals as goal
 

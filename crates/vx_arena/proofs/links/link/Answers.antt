@@ -1,4 +1,4 @@
-use Rattle.std.proofs.Common.{◌≤◌, length, ap, refl}
+use Rattle.std.proofs.Common.{length, ap}
 use Rattle.vx_arena.proofs.Naming.{named_at}
 use Rattle.vx_arena.proofs.Linking.{bytes_fit, links}
 use Rattle.vx_arena.proofs.links.link.Goals as goal

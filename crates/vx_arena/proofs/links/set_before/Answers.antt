@@ -1,6 +1,6 @@
-use Rattle.std.proofs.Common.{◌≤◌, length, ap, refl}
+use Rattle.std.proofs.Common.{length, ap}
 use Rattle.vx_arena.proofs.Naming.{named_at}
-use Rattle.vx_arena.proofs.Linking.{bytes_fit, sets_before, sets_none}
+use Rattle.vx_arena.proofs.Linking.{bytes_fit, sets_before}
 use Rattle.vx_arena.proofs.links.set_before.Goals as goal
 
 pub write-requires-clause-there : goal.write-requires-clause-there

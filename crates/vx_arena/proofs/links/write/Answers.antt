@@ -1,5 +1,4 @@
-use Rattle.std.proofs.Common.{◌+◌, ◌≤◌, length, ap, ◌∙◌, sym, subst, refl, arith}
-use Rattle.vx_raw.specs.Region.{written}
+use Rattle.std.proofs.Common.{◌+◌, ◌≤◌, length, sym, subst}
 use Rattle.vx_arena.specs.Block.{Block}
 use Rattle.vx_arena.proofs.Naming.{named_at, named_is}
 use Rattle.vx_arena.proofs.Linking.{wrote_bytes}

@@ -1,4 +1,4 @@
-use Rattle.std.proofs.Common.{refl, ◌≡◌, ◌≤◌, ◌<◌, ◌∙◌, arith}
+use Rattle.std.proofs.Common.{refl, ◌≤◌, ◌∙◌, arith}
 use Rattle.vx_arena.proofs.Parts.{none_yet, none_more, lacks, gives_more}
 use Rattle.vx_arena.proofs.part.find.Goals as goal
 

@@ -1,4 +1,4 @@
-use Rattle.std.proofs.Common.{◌≡◌, ◌≤◌, ℕ}
+use Rattle.std.proofs.Common.{◌≡◌}
 use Rattle.vx_arena.proofs.Parts.{NoneOf}
 use Rattle.vx_arena.proofs.part.find.Given as goal
 

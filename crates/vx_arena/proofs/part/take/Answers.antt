@@ -1,4 +1,4 @@
-use Rattle.std.proofs.Common.{◌≡◌, ◌≤◌, arith}
+use Rattle.std.proofs.Common.{◌≤◌, arith}
 use Rattle.vx_arena.specs.Free.{class_len}
 use Rattle.vx_arena.proofs.Classes.{class_len_least, class_len_most}
 use Rattle.vx_arena.proofs.Parts.{takes}

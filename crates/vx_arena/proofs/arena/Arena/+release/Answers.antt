@@ -1,4 +1,4 @@
-use Rattle.std.proofs.Common.{◌≡◌, ◌+◌, ◌<◌, ◌^◌, subst, arith, rules}
+use Rattle.std.proofs.Common.{◌≡◌, ◌+◌, ◌<◌, ◌^◌, subst, arith}
 use Rattle.vx_arena.specs.Names.{lives}
 use Rattle.vx_arena.specs.Text.{ArenaModel}
 use Rattle.vx_arena.proofs.Chains.{gives_none, gives_rest, has_live, gives_more}

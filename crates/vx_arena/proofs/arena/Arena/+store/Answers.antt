@@ -1,7 +1,7 @@
-use Rattle.std.proofs.Common.{◌≡◌, ◌+◌, ◌-◌, ◌<◌, ◌^◌, length, take, drop, refl, sym, ap, ◌∙◌, subst, arith}
+use Rattle.std.proofs.Common.{◌-◌, ◌<◌, ◌^◌, length, take, drop, sym, subst}
 use Rattle.std.proofs.lemmas.Bool.{eqb-true}
 use Rattle.vx_arena.specs.Text.{ArenaModel, GivesAll, TakesNothing}
-use Rattle.vx_arena.proofs.Storing.{cut_slices, fits_taken, stores_none, can_follow, can_release, stores_more, nothing_rest, nothing_more, if_err}
+use Rattle.vx_arena.proofs.Storing.{cut_slices, fits_taken, stores_none, can_follow, stores_more, nothing_rest, nothing_more, if_err}
 use Rattle.vx_arena.proofs.arena.Arena.+store.Goals as goal
 
 pub returns-then-is_empty-clause-ok : goal.returns-then-is_empty-clause-ok

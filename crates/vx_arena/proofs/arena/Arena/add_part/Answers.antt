@@ -1,4 +1,4 @@
-use Rattle.std.proofs.Common.{◌≡◌, length, sym, subst}
+use Rattle.std.proofs.Common.{length, sym, subst}
 use Rattle.vx_arena.specs.Text.{ArenaModel, CanFollow, AddsPart, more}
 use Rattle.vx_arena.proofs.PartSteps.{class_fits, link_inside, linked_live, part_inside, part_added, arena_more}
 use Rattle.vx_arena.proofs.arena.Arena.add_part.Goals as goal

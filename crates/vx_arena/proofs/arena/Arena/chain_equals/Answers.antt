@@ -1,5 +1,5 @@
-use Rattle.std.proofs.Common.{◌≡◌, take, refl}
-use Rattle.vx_arena.proofs.Walking.{compare_start, compare_end, compare_over, compare_less, compare_next, compare_false, not_true, left_live}
+use Rattle.std.proofs.Common.{refl}
+use Rattle.vx_arena.proofs.Walking.{compare_start, compare_end, compare_less, compare_next, compare_false, not_true, left_live}
 use Rattle.vx_arena.proofs.arena.Arena.chain_equals.Goals as goal
 
 pub loop-block-init : goal.loop-block-init

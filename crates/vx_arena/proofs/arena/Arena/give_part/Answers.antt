@@ -1,4 +1,4 @@
-use Rattle.std.proofs.Common.{◌≡◌, sym, subst}
+use Rattle.std.proofs.Common.{sym, subst}
 use Rattle.vx_arena.specs.Text.{ArenaModel, StandsLive, IsUnnamed, GivesPart, more}
 use Rattle.vx_arena.proofs.Chaining.{live_stands}
 use Rattle.vx_arena.proofs.PartSteps.{part_given, arena_less}

@@ -1,5 +1,4 @@
-use Rattle.std.proofs.Common.{◌≡◌, ◌^◌, ◌<◌, ℕ, sym, subst}
-use Rattle.vx_arena.specs.Names.{name_of}
+use Rattle.std.proofs.Common.{ℕ, subst}
 use Rattle.vx_arena.specs.Text.{ArenaModel, IsChained, GivesAll}
 use Rattle.vx_arena.proofs.Texts.{gives_keeps}
 use Rattle.vx_arena.proofs.arena.Arena.give_text.Goals as goal

@@ -1,4 +1,4 @@
-use Rattle.std.proofs.Common.{[], sym, subst}
+use Rattle.std.proofs.Common.{sym, subst}
 use Rattle.vx_arena.specs.Chunks.{Chunks}
 use Rattle.vx_arena.specs.Text.{IsArena}
 use Rattle.vx_arena.proofs.Starting.{arena_empty}

@@ -1,4 +1,4 @@
-use Rattle.std.proofs.Common.{◌≡◌, sym, ap, ◌∙◌, subst}
+use Rattle.std.proofs.Common.{sym, ap, ◌∙◌, subst}
 use Rattle.vx_arena.specs.Free.{next_in}
 use Rattle.vx_arena.specs.Text.{ArenaModel, StandsLive, next_at}
 use Rattle.vx_arena.proofs.Chaining.{live_stands, named_payload}

@@ -1,4 +1,4 @@
-use Rattle.std.proofs.Common.{◌≡◌, ℕ, List, ◌-◌, length, take, drop, sym, ap, ◌∙◌, subst, arith}
+use Rattle.std.proofs.Common.{◌≡◌, ℕ, List, ◌-◌, length, take, drop, sym, ap, ◌∙◌, subst}
 use Rattle.vx_arena.specs.Names.{named}
 use Rattle.vx_arena.specs.Text.{ArenaModel, StandsLive, part_at}
 use Rattle.vx_arena.proofs.Chaining.{live_stands, named_payload}

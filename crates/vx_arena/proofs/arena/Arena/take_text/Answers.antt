@@ -1,8 +1,11 @@
-use Rattle.vx_arena.proofs.Texts.{stored_text, stored_reads, takes_keeps, nothing_keeps}
+use Rattle.vx_arena.proofs.Texts.{stored_new, stored_text, stored_reads, takes_keeps, nothing_keeps}
 use Rattle.vx_arena.proofs.arena.Arena.take_text.Goals as goal
 
 pub returns-in_err-first-clause-keeps : goal.returns-in_err-first-clause-keeps
 returns-in_err-first-clause-keeps c = nothing_keeps c.args.self.now c.store.new.self c.args.text.now c.in_err-first.ensures.err
+
+pub returns-clause-fresh : goal.returns-clause-fresh
+returns-clause-fresh c = stored_new c.args.self.now c.store.new.self c.in_ok-first.first c.args.text.now c.place.result c.requires.least c.place.ensures.is c.in_ok-first.ensures.ok
 
 pub returns-clause-there : goal.returns-clause-there
 returns-clause-there c = stored_text c.args.self.now c.store.new.self c.in_ok-first.first c.args.text.now c.place.result c.requires.least c.requires.most c.place.ensures.near c.place.ensures.is c.in_ok-first.ensures.ok

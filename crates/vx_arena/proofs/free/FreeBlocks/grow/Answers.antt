@@ -1,11 +1,7 @@
-use Rattle.std.proofs.Common.{◌≡◌, ℕ, ◌+◌, ◌*◌, ◌^◌, ◌<◌, ◌≤◌, length, sym, ap, ◌∙◌, subst, arith}
-use Rattle.vx_raw.specs.Region.{written}
-use Rattle.vx_arena.specs.Chunks.{Chunks, held_by}
-use Rattle.vx_arena.specs.Names.{named}
-use Rattle.vx_arena.specs.Free.{IsLive, Grows, Halves, Writes}
-use Rattle.vx_arena.proofs.Effects.{long_named}
-use Rattle.vx_arena.proofs.Steps.{named_live}
-use Rattle.vx_arena.proofs.Keeping.{live_some_name, written_listed, written_writes, added_named, grown_listed, grown, rest_named, halved_listed, halved}
+use Rattle.std.proofs.Common.{subst}
+use Rattle.vx_arena.specs.Chunks.{Chunks}
+use Rattle.vx_arena.specs.Free.{Grows}
+use Rattle.vx_arena.proofs.Keeping.{grown_listed, grown}
 use Rattle.vx_arena.proofs.Linking.{named_from}
 use Rattle.vx_arena.proofs.free.FreeBlocks.grow.Goals as goal
 

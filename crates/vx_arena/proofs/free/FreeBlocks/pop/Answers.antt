@@ -1,4 +1,4 @@
-use Rattle.std.proofs.Common.{◌≡◌, ◌≢◌, ◌≤◌, get_or, refl, subst}
+use Rattle.std.proofs.Common.{get_or, subst}
 use Rattle.vx_arena.specs.Chunks.{Chunks}
 use Rattle.vx_arena.specs.Free.{Gives}
 use Rattle.vx_arena.proofs.Steps.{bare, head_named, head_long, after_there, after_long, pops, pop_gives}

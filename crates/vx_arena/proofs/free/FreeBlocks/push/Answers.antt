@@ -1,4 +1,4 @@
-use Rattle.std.proofs.Common.{◌≡◌, ◌≢◌, ◌≤◌, ◌<◌, ◌*◌, Fits, w64, get_or, refl, sym, ap, ◌∙◌, subst, arith, rules}
+use Rattle.std.proofs.Common.{◌<◌, sym, ap, ◌∙◌, subst, rules}
 use Rattle.vx_arena.specs.Chunks.{Chunks}
 use Rattle.vx_arena.specs.Free.{class_of, IsLive, Frees}
 use Rattle.vx_arena.proofs.Steps.{named_live, named_changed, live_long, class_lt, old_head_named, old_head_long, none_after, pushes, push_frees}

@@ -1,11 +1,10 @@
-use Rattle.std.proofs.Common.{◌≡◌, ℕ, ◌+◌, ◌*◌, ◌^◌, ◌<◌, ◌≤◌, length, sym, ap, ◌∙◌, subst, arith}
+use Rattle.std.proofs.Common.{◌+◌, ◌≤◌, length, sym, subst}
 use Rattle.vx_raw.specs.Region.{written}
-use Rattle.vx_arena.specs.Chunks.{Chunks, held_by}
+use Rattle.vx_arena.specs.Chunks.{Chunks}
 use Rattle.vx_arena.specs.Names.{named}
-use Rattle.vx_arena.specs.Free.{IsLive, Grows, Halves, Writes}
-use Rattle.vx_arena.proofs.Effects.{long_named}
+use Rattle.vx_arena.specs.Free.{IsLive, Writes}
 use Rattle.vx_arena.proofs.Steps.{named_live}
-use Rattle.vx_arena.proofs.Keeping.{live_some_name, written_listed, written_writes, added_named, grown_listed, grown, rest_named, halved_listed, halved}
+use Rattle.vx_arena.proofs.Keeping.{written_listed, written_writes}
 use Rattle.vx_arena.proofs.free.FreeBlocks.write.Goals as goal
 
 pub write-requires-clause-there : goal.write-requires-clause-there

@@ -1,0 +1,4 @@
+pub mod MarkLemmas
+pub mod TextLemmas
+pub mod EvalLemmas
+pub mod MaskLemmas

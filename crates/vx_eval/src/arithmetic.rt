@@ -1,0 +1,161 @@
+ghost use Rattle.std.specs.Prelude.{◌≡◌, ℕ, ◌<◌, if◌then◌else◌, length, IfOk, FitsSigned};
+ghost use Rattle.std.specs.Int.{w64};
+ghost use Rattle.vx_value.specs.declared.value.Value.TheVariants as value;
+ghost use Rattle.vx_expr.specs.Eval as eval;
+ghost use Rattle.vx_eval.specs.Got.{got_of, got_under};
+ghost use Rattle.vx_vector.specs.Lanes.{int_lane};
+
+use crate::marks::{DIVIDE_BY_ZERO, OVERFLOW, marked, strictest};
+use crate::rows::{One, Two, each_one, each_two};
+use std::alloc::{AllocError, Global};
+use std::marker::PhantomData;
+use vx_vector::{FINE, Ints};
+
+/// A strict function of two ints. Its meaning is that of one row.
+pub(crate) trait IntOp {
+    ghost use Rattle.std.specs.Prelude.{ℤ};
+    ghost use Rattle.vx_expr.specs.declared.outcome.Got.{Got};
+
+    ghost meaning: { ℤ → ℤ → Got };
+
+    /// A number and the mark under which it stands.
+    fn at(x: i64, y: i64) -> (i64, u8)
+        ensures got { got_under result.1 (value.Int result.0) ≡ meaning x y }
+        ensures fits { FitsSigned w64 result.0 };
+}
+
+pub(crate) struct Plus;
+
+impl IntOp for Plus {
+    ghost meaning = { eval.sum };
+
+    #[inline(always)]
+    fn at(x: i64, y: i64) -> (i64, u8) {
+        let (value, over) = x.overflowing_add(y);
+        (value, overflow_if(over))
+    }
+}
+
+pub(crate) struct Minus;
+
+impl IntOp for Minus {
+    ghost meaning = { eval.difference };
+
+    #[inline(always)]
+    fn at(x: i64, y: i64) -> (i64, u8) {
+        let (value, over) = x.overflowing_sub(y);
+        (value, overflow_if(over))
+    }
+}
+
+pub(crate) struct Multiply;
+
+impl IntOp for Multiply {
+    ghost meaning = { eval.product };
+
+    #[inline(always)]
+    fn at(x: i64, y: i64) -> (i64, u8) {
+        match x.checked_mul(y) {
+            Some(value) => (value, FINE),
+            None => (0, OVERFLOW),
+        }
+    }
+}
+
+pub(crate) struct Divide;
+
+impl IntOp for Divide {
+    ghost meaning = { eval.quotient };
+
+    #[inline(always)]
+    fn at(x: i64, y: i64) -> (i64, u8) {
+        if y == 0 {
+            return (0, DIVIDE_BY_ZERO);
+        }
+        if x == i64::MIN && y == -1 {
+            return (0, OVERFLOW);
+        }
+        (x / y, FINE)
+    }
+}
+
+pub(crate) struct Modulus;
+
+impl IntOp for Modulus {
+    ghost meaning = { eval.remainder };
+
+    #[inline(always)]
+    fn at(x: i64, y: i64) -> (i64, u8) {
+        if y == 0 {
+            return (0, DIVIDE_BY_ZERO);
+        }
+        (x.wrapping_rem(y), FINE)
+    }
+}
+
+#[inline(always)]
+fn overflow_if(over: bool) -> u8
+    ensures { result ≡ (if over then 2 else 0) }
+{
+    if over { OVERFLOW } else { FINE }
+}
+
+/// The strict function with marks: null where a side is, and the leftmost fault.
+struct Strict<O> {
+    of: PhantomData<O>,
+}
+
+impl<O: IntOp> Two<i64, i64, i64> for Strict<O> {
+    ghost Gives = { λ x left y right v m. got_under m (value.Int v) ≡ eval.binary (eval.of_ints O.meaning) (got_under left (value.Int x)) (got_under right (value.Int y)) };
+
+    #[inline(always)]
+    fn at(x: i64, left: u8, y: i64, right: u8) -> (i64, u8) {
+        let (value, own) = O::at(x, y);
+        (value, marked(strictest(left, right), own))
+    }
+}
+
+/// The function on each row.
+pub(crate) fn of_ints<O: IntOp>(alloc: Global, a: &Ints, b: &Ints) -> Result<Ints, AllocError>
+    requires { length b.now.marks.items ≡ length a.now.marks.items }
+    ensures rows { IfOk result (λ r. length r.marks.items ≡ length a.now.marks.items) }
+    ensures each { IfOk result (λ r. (k : ℕ) → k < length a.now.marks.items → got_of (int_lane r k) ≡ eval.binary (eval.of_ints O.meaning) (got_of (int_lane a.now k)) (got_of (int_lane b.now k))) }
+{
+    let (values, marks) = each_two::<i64, i64, i64, Strict<O>>(
+        alloc,
+        0,
+        a.values.as_slice(),
+        a.marks.as_slice(),
+        b.values.as_slice(),
+        b.marks.as_slice(),
+    )?;
+    Ok(Ints { values, marks })
+}
+
+struct Negation;
+
+impl One<i64, i64> for Negation {
+    ghost Gives = { λ x mark v m. got_under m (value.Int v) ≡ eval.unary eval.negation (got_under mark (value.Int x)) };
+
+    #[inline(always)]
+    fn at(x: i64, mark: u8) -> (i64, u8) {
+        match x.checked_neg() {
+            Some(value) => (value, mark),
+            None => (0, marked(mark, OVERFLOW)),
+        }
+    }
+}
+
+/// `negate` on each row.
+pub(crate) fn negations(alloc: Global, a: &Ints) -> Result<Ints, AllocError>
+    ensures rows { IfOk result (λ r. length r.marks.items ≡ length a.now.marks.items) }
+    ensures each { IfOk result (λ r. (k : ℕ) → k < length a.now.marks.items → got_of (int_lane r k) ≡ eval.unary eval.negation (got_of (int_lane a.now k))) }
+{
+    let (values, marks) = each_one::<i64, i64, Negation>(
+        alloc,
+        0,
+        a.values.as_slice(),
+        a.marks.as_slice(),
+    )?;
+    Ok(Ints { values, marks })
+}

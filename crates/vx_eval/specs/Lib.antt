@@ -5,3 +5,4 @@ pub mod TextRows
 pub mod Gives
 pub mod Evaluated
 pub mod Matters
+pub mod Wanted

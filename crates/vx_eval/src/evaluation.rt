@@ -9,7 +9,7 @@ use crate::apply::{apply_one, apply_three, apply_two};
 use crate::columns::column_lanes;
 use crate::leaf::{filled, literal_lanes};
 use crate::mask::{FaultMask, faults_of};
-use crate::wanted::{left_over, second_wanted, taken};
+use crate::wanted::{left_over, second_wanted, taken, these_or};
 use std::alloc::{AllocError, Global};
 use vx_expr::{Expr, Func};
 use vx_vector::{Batch, Lanes, Selection, Vector};
@@ -80,7 +80,7 @@ fn lanes_of_call(
         [a, b] => {
             let a = lanes_of(alloc, a, batch, rows, wanted)?;
             let second = second_wanted(alloc, func, &a, wanted)?;
-            let b = lanes_of(alloc, b, batch, rows, second.as_slice())?;
+            let b = lanes_of(alloc, b, batch, rows, these_or(&second, wanted))?;
             apply_two(alloc, func, &a, &b, wanted)
         }
         [c, a, b] => {

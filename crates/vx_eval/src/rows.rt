@@ -1,5 +1,6 @@
 ghost use Rattle.std.specs.Prelude.{◌≡◌, ℕ, ◌<◌, length, get_or, IfOk};
 
+use crate::leaf::filled;
 use std::alloc::{AllocError, Global};
 
 /// A function of one row of a buffer: what stands there and its mark give what the result has.
@@ -31,8 +32,8 @@ pub(crate) fn each_one<T: Copy, R: Copy, O: One<T, R>>(
     ensures each { IfOk result (λ r. (k : ℕ) (x : T) (v : R) → k < length marks.now → O.Gives (get_or xs.now k x) (get_or marks.now k 1) (get_or r.0.items k v) (get_or r.1.items k 1)) }
 {
     let rows = marks.len();
-    let mut values = vec![in alloc; blank; rows]?;
-    let mut given = vec![in alloc; 0; rows]?;
+    let mut values = filled(alloc, blank, rows)?;
+    let mut given = filled(alloc, 0, rows)?;
     for row in 0..rows {
         let (value, mark) = O::at(xs[row], marks[row]);
         values[row] = value;
@@ -58,8 +59,8 @@ pub(crate) fn each_two<T: Copy, U: Copy, R: Copy, O: Two<T, U, R>>(
     ensures each { IfOk result (λ r. (k : ℕ) (x : T) (y : U) (v : R) → k < length left.now → O.Gives (get_or xs.now k x) (get_or left.now k 1) (get_or ys.now k y) (get_or right.now k 1) (get_or r.0.items k v) (get_or r.1.items k 1)) }
 {
     let rows = left.len();
-    let mut values = vec![in alloc; blank; rows]?;
-    let mut marks = vec![in alloc; 0; rows]?;
+    let mut values = filled(alloc, blank, rows)?;
+    let mut marks = filled(alloc, 0, rows)?;
     for row in 0..rows {
         let (value, mark) = O::at(xs[row], left[row], ys[row], right[row]);
         values[row] = value;
@@ -101,8 +102,8 @@ pub(crate) fn each_three<S: Copy, T: Copy, U: Copy, R: Copy, O: Three<S, T, U, R
     ensures each { IfOk result (λ r. (k : ℕ) (w : S) (x : T) (y : U) (v : R) → k < length c.entry.marks.now → O.Gives (get_or c.entry.values.now k w) (get_or c.entry.marks.now k 1) (get_or a.entry.values.now k x) (get_or a.entry.marks.now k 1) (get_or b.entry.values.now k y) (get_or b.entry.marks.now k 1) (get_or r.0.items k v) (get_or r.1.items k 1)) }
 {
     let rows = c.marks.len();
-    let mut values = vec![in alloc; blank; rows]?;
-    let mut marks = vec![in alloc; 0; rows]?;
+    let mut values = filled(alloc, blank, rows)?;
+    let mut marks = filled(alloc, 0, rows)?;
     for row in 0..rows {
         let (value, mark) = O::at(
             c.values[row],

@@ -7,6 +7,7 @@ ghost use Rattle.vx_vector.specs.Lane.{text_at};
 ghost use Rattle.vx_vector.specs.Lanes.{bool_lane, int_lane, text_lane};
 
 use crate::compare::Comparison;
+use crate::leaf::filled;
 use crate::marks::strictest;
 use std::alloc::{AllocError, Global};
 use std::marker::PhantomData;
@@ -68,8 +69,8 @@ pub(crate) fn test_texts<X: TextTest>(
     ensures each { IfOk result (λ r. (k : ℕ) → k < length a.now → got_of (bool_lane r k) ≡ eval.binary X.meaning (got_of (text_lane a.now k)) (got_of (text_lane b.now k))) }
 {
     let rows = a.len();
-    let mut values = vec![in alloc; false; rows]?;
-    let mut marks = vec![in alloc; 0; rows]?;
+    let mut values = filled(alloc, false, rows)?;
+    let mut marks = filled(alloc, 0, rows)?;
     for row in 0..rows {
         values[row] = X::at(a.get(row), b.get(row));
         marks[row] = strictest(a.mark(row), b.mark(row));
@@ -83,8 +84,8 @@ pub(crate) fn lengths(alloc: Global, a: &Texts) -> Result<Ints, AllocError>
     ensures each { IfOk result (λ r. (k : ℕ) → k < length a.now → got_of (int_lane r k) ≡ eval.unary eval.byte_length (got_of (text_lane a.now k))) }
 {
     let rows = a.len();
-    let mut values = vec![in alloc; 0; rows]?;
-    let mut marks = vec![in alloc; 0; rows]?;
+    let mut values = filled(alloc, 0, rows)?;
+    let mut marks = filled(alloc, 0, rows)?;
     for row in 0..rows {
         values[row] = a.get(row).len() as i64;
         marks[row] = a.mark(row);

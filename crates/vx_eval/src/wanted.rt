@@ -5,6 +5,7 @@ ghost use Rattle.vx_value.specs.Value.{is_null};
 ghost use Rattle.vx_expr.specs.Eval.{is_truth};
 ghost use Rattle.vx_eval.specs.Got.{got_at, got_of, got_under};
 ghost use Rattle.vx_eval.specs.Matters.{matters, is_else, gives_null};
+ghost use Rattle.vx_eval.specs.Wanted as spec;
 ghost use Rattle.vx_vector.specs.Lanes.{rows_of, bool_lane};
 
 use crate::rows::{Two, each_two};
@@ -74,28 +75,38 @@ impl Two<u8, bool, bool> for WhereNull {
 }
 
 /// The wanted rows but some on which a function's second argument doesn't matter, after what its first one
-/// gave.
+/// gave; none where these are all wanted rows.
 pub(crate) fn second_wanted(
     alloc: Global,
     func: Func,
     a: &Lanes,
     wanted: &[bool],
-) -> Result<Vec<bool>, AllocError>
+) -> Result<Option<Vec<bool>>, AllocError>
     requires { length wanted.now ≡ rows_of a.now }
-    ensures rows { IfOk result (λ r. length r.items ≡ rows_of a.now) }
-    ensures each { IfOk result (λ r. (k : ℕ) → k < rows_of a.now → get_or wanted.now k false ≡ true → get_or r.items k false ≡ false → matters func (got_at a.now k) ≡ false) }
+    ensures rows { IfOk result (λ r. length (spec.these_or r wanted.now) ≡ rows_of a.now) }
+    ensures each { IfOk result (λ r. (k : ℕ) → k < rows_of a.now → get_or wanted.now k false ≡ true → get_or (spec.these_or r wanted.now) k false ≡ false → matters func (got_at a.now k) ≡ false) }
 {
     match func {
         Func::And => match a {
-            Lanes::Bools(a) => unless_false(alloc, a, wanted),
-            _ => Vec::from_slice(alloc, wanted),
+            Lanes::Bools(a) => Ok(Some(unless_false(alloc, a, wanted)?)),
+            _ => Ok(None),
         },
         Func::Or => match a {
-            Lanes::Bools(a) => unless_true(alloc, a, wanted),
-            _ => Vec::from_slice(alloc, wanted),
+            Lanes::Bools(a) => Ok(Some(unless_true(alloc, a, wanted)?)),
+            _ => Ok(None),
         },
-        Func::Coalesce => where_null(alloc, a, wanted),
-        _ => Vec::from_slice(alloc, wanted),
+        Func::Coalesce => Ok(Some(where_null(alloc, a, wanted)?)),
+        _ => Ok(None),
+    }
+}
+
+/// These rows, or all wanted ones.
+pub(crate) fn these_or<'a>(these: &'a Option<Vec<bool>>, wanted: &'a [bool]) -> &'a [bool]
+    ensures { result.now ≡ spec.these_or these.now wanted.now }
+{
+    match these {
+        Some(rows) => rows.as_slice(),
+        None => wanted,
     }
 }
 

@@ -13,17 +13,17 @@ lanes_of-returns-in-Call t c =
 
 pub lanes_of_call-returns-in_ok-b-in-len2 : goal.lanes_of_call-returns-in_ok-b-in-len2
 lanes_of_call-returns-in_ok-b-in-len2 t c =
-    evaluated_two c.args.batch.now.columns.items c.args.rows.now c.args.wanted.now c.as_slice.result.now c.args.func c.args.args.now c.a-item-then-args-lt3.result c.b-item.result c.in_ok-a-in-len2.a c.in_ok-b-in-len2.b c.apply_two.result
+    evaluated_two c.args.batch.now.columns.items c.args.rows.now c.args.wanted.now c.these_or.result.now c.args.func c.args.args.now c.a-item-then-args-lt3.result c.b-item.result c.in_ok-a-in-len2.a c.in_ok-b-in-len2.b c.apply_two.result
     (two_items c.args.args.now c.a-item-then-args-lt3.result c.b-item.result c.in-len2.len_at_least c.in-len2.len_below c.a-item-then-args-lt3.is c.b-item.is)
     c.requires.ready c.in_ok-a-in-len2.ensures c.in_ok-b-in-len2.ensures
-    (λ k h w s. c.in_ok-second-in-len2.ensures.each k h w (rw c.as_slice.ensures.value at s))
+    (λ k h w s. c.in_ok-second-in-len2.ensures.each k h w (rw c.these_or.ensures at s))
     c.apply_two.ensures.kind c.apply_two.ensures.each
 
 pub lanes_of_call-returns-in_ok-b-in-len3 : goal.lanes_of_call-returns-in_ok-b-in-len3
 lanes_of_call-returns-in_ok-b-in-len3 t c =
-    evaluated_three c.args.batch.now.columns.items c.args.rows.now c.args.wanted.now c.as_slice-in-len3.result.now c.as_slice-in-len3-2.result.now c.args.func c.args.args.now c.c-item.result c.a-item-then-args-lt4.result c.b-item-then-args-lt4.result c.in_ok-c-in-len3.c c.in_ok-a-in-len3.a c.in_ok-b-in-len3.b c.apply_three.result
+    evaluated_three c.args.batch.now.columns.items c.args.rows.now c.args.wanted.now c.as_slice.result.now c.as_slice-in-len3.result.now c.args.func c.args.args.now c.c-item.result c.a-item-then-args-lt4.result c.b-item-then-args-lt4.result c.in_ok-c-in-len3.c c.in_ok-a-in-len3.a c.in_ok-b-in-len3.b c.apply_three.result
     (three_items c.args.args.now c.c-item.result c.a-item-then-args-lt4.result c.b-item-then-args-lt4.result c.in-len3.len_at_least c.in-len3.len_below c.c-item.is c.a-item-then-args-lt4.is c.b-item-then-args-lt4.is)
     c.requires.ready c.in_ok-c-in-len3.ensures c.in_ok-a-in-len3.ensures c.in_ok-b-in-len3.ensures
-    (λ k h w s. c.in_ok-first-in-len3.ensures.each k h w (rw c.as_slice-in-len3.ensures.value at s))
-    (λ k h w s. c.in_ok-last-in-len3.ensures.each k h w (rw c.as_slice-in-len3-2.ensures.value at s))
+    (λ k h w s. c.in_ok-first-in-len3.ensures.each k h w (rw c.as_slice.ensures.value at s))
+    (λ k h w s. c.in_ok-last-in-len3.ensures.each k h w (rw c.as_slice-in-len3.ensures.value at s))
     c.apply_three.ensures.kind c.apply_three.ensures.each

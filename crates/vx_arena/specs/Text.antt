@@ -177,17 +177,17 @@ pub record HasChain (chunks : Chunks) (first : ℕ) : Type 0 where
 abbrev pub GivesAll : ArenaModel → ArenaModel → ℕ → Type 0
 GivesAll before after first = (names : List ℕ) → IsChain before.chunks first names → GivesText before after names
 
--- a text is where it was, with the bytes and as many blocks as it had
+-- a text is where it was, with the bytes that it had in as many blocks
 pub record StaysText (before after : ArenaModel) (place : Place) : Type 0 where
   pub there : IsText after place
   pub bytes : bytes_at after place ≡ bytes_at before place
   pub count : count_at after place ≡ count_at before place
 
--- and so is each
+-- each text stays
 abbrev pub KeepsTexts : ArenaModel → ArenaModel → Type 0
 KeepsTexts before after = (place : Place) → IsText before place → StaysText before after place
 
--- or each but the one at this place
+-- each text stays but the one at this place
 abbrev pub KeepsOthers : ArenaModel → ArenaModel → Place → Type 0
 KeepsOthers before after gone = (place : Place) → IsText before place → (name_of place ≡ name_of gone → ⊥) → StaysText before after place
 

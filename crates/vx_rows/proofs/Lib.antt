@@ -1,0 +1,5 @@
+pub mod BodyLemmas
+pub mod LayoutLemmas
+pub mod NullLemmas
+pub mod SlotLemmas
+pub mod WriteLemmas

@@ -1,9 +1,9 @@
 -- What a body stores after a field was put into it.
-use Rattle.std.proofs.Common.{◌≡◌, ◌≢◌, ℕ, zero, suc, inl, inr, ◌+◌, ◌*◌, ◌-◌, ◌/◌, ◌%◌, ◌<◌, ◌≤◌, ◌⊎◌, Bool, true, false, cond, eqb, List, [], ◌∷◌, ◌++◌, length, take, drop, get_or, set, map, refl, sym, ap, ◌∙◌, arith}
-use Rattle.std.specs.List.{sum_by, range_with_len}
+use Rattle.std.proofs.Common.{◌≡◌, ℕ, zero, suc, inl, inr, ◌+◌, ◌-◌, ◌/◌, ◌%◌, ◌<◌, ◌≤◌, ◌⊎◌, Bool, true, false, cond, eqb, List, [], ◌∷◌, length, take, get_or, set, refl, sym, ap, ◌∙◌, arith}
+use Rattle.std.specs.List.{sum_by}
 use Rattle.std.specs.Int.{bit_at}
 use Rattle.std.proofs.lemmas.Bool.{cases_order}
-use Rattle.std.proofs.lemmas.List.{ext_get_or, length-set, get_or-set_same, get_or-set_other, take_all}
+use Rattle.std.proofs.lemmas.List.{ext_get_or, length-set, get_or-set_same, get_or-set_other}
 use Rattle.std.proofs.lemmas.List.FromFn.{get_or-map-range_with_len, length-map-range_with_len}
 use Rattle.std.proofs.lemmas.List.Sums.{sum_by_more, sum_by_more_le}
 use Rattle.vx_raw.specs.Region.{written}
@@ -11,8 +11,8 @@ use Rattle.vx_value.specs.declared.value.Kind.{Kind}
 use Rattle.vx_rows.specs.declared.fields.Extra.{Extra}
 use Rattle.vx_rows.specs.declared.fields.Extra.TheVariants as extra
 use Rattle.vx_rows.specs.Layout.{body_len, field_at, field_len, null_len, place_of}
-use Rattle.vx_rows.specs.Nulls.{is_null_in, SetsBit}
-use Rattle.vx_rows.specs.Body.{Stored, null, bool, int, short, long, raw, all_stored, bytes_of, stored_in, read_field, read_slot, spelled, is_null, FitsField, Puts}
+use Rattle.vx_rows.specs.Nulls.{is_null_in}
+use Rattle.vx_rows.specs.Body.{Stored, null, raw, all_stored, bytes_of, stored_in, read_field, read_slot, spelled, is_null, FitsField, Puts}
 use Rattle.vx_rows.proofs.WriteLemmas.{written-length, byte_before, byte_behind, byte_there, there, part_before, part_behind}
 use Rattle.vx_rows.proofs.SlotLemmas.{read_back, many_spelled, few_spelled}
 

@@ -1,5 +1,5 @@
 -- The bytes of slots: what is written is read back.
-use Rattle.std.proofs.Common.{◌≡◌, ◌≢◌, ℕ, ℤ, ◌-◌, ◌+◌, ◌^◌, ◌<◌, ◌≤◌, nat_le, Bool, true, false, List, [], ◌∷◌, ◌++◌, length, get_or, take, drop, replicate, refl, sym, ap, ◌∙◌, subst, arith, w32, w64, FitsSigned}
+use Rattle.std.proofs.Common.{◌≡◌, ℕ, ℤ, ◌-◌, ◌+◌, ◌^◌, ◌<◌, ◌≤◌, nat_le, Bool, true, false, List, [], ◌∷◌, ◌++◌, length, get_or, take, drop, replicate, refl, sym, ap, ◌∙◌, arith, w32, w64, FitsSigned}
 use Rattle.std.specs.Int.{to_le_bytes, from_le_bytes, cast_signed, cast_unsigned}
 use Rattle.std.proofs.lemmas.Int.{to_z-of_z}
 use Rattle.std.proofs.Math.Facts.{Fits-of_z}
@@ -12,9 +12,9 @@ use Rattle.vx_value.specs.declared.value.Kind.{Kind}
 use Rattle.vx_value.specs.declared.value.Kind.TheVariants as kind
 use Rattle.vx_rows.specs.declared.fields.Extra.{Extra}
 use Rattle.vx_rows.specs.declared.fields.Extra.TheVariants as extra
-use Rattle.vx_rows.specs.Slot.{bool_in, front_in, int_in, len_in, place_in_slot, short_in, spelled_bool, spelled_int, spelled_long, spelled_short}
+use Rattle.vx_rows.specs.Slot.{bool_in, front_in, int_in, len_in, place_in_slot, spelled_bool, spelled_int, spelled_long, spelled_short}
 use Rattle.vx_rows.specs.Layout.{field_len}
-use Rattle.vx_rows.specs.Body.{Stored, null, bool, int, short, long, raw, read_field, read_slot, spelled, is_null, CanBeSpelled, FitsField, IsLong}
+use Rattle.vx_rows.specs.Body.{Stored, null, bool, int, short, long, raw, read_field, read_slot, spelled, is_null, FitsField, IsLong}
 
 -- a list of four is its items
 pub four : (xs rest : List ℕ) → length xs ≡ 4 → get_or xs 0 0 ∷ get_or xs 1 0 ∷ get_or xs 2 0 ∷ get_or xs 3 0 ∷ rest ≡ xs ++ rest

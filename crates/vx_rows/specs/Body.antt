@@ -1,5 +1,5 @@
 -- A row's body: what each of its fields stores. A field is null by its null bit, or stores what its own bytes spell.
-use Rattle.std.specs.Prelude.{◌≡◌, ℕ, ℤ, ◌+◌, ◌/◌, ◌%◌, ◌^◌, ◌<◌, ◌≤◌, nat_le, Bool, true, false, List, [], ◌∷◌, length, map, take, drop, slice_index, slice_set, if◌then◌else◌, FitsSigned, ⊤}
+use Rattle.std.specs.Prelude.{◌≡◌, ℕ, ℤ, ◌/◌, ◌%◌, ◌^◌, ◌<◌, ◌≤◌, nat_le, Bool, true, false, List, [], ◌∷◌, length, map, take, drop, slice_index, if◌then◌else◌, FitsSigned, ⊤}
 use Rattle.std.specs.List.{range_with_len}
 use Rattle.std.specs.Int.{w64}
 use Rattle.vx_raw.specs.declared.place.Place.{Place}

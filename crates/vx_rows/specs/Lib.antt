@@ -4,3 +4,4 @@ pub mod Need
 pub mod Nulls
 pub mod Places
 pub mod Slot
+pub mod Texts

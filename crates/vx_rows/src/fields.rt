@@ -82,7 +82,8 @@ impl Fields {
 
     /// How many there are.
     pub(crate) fn count(&self) -> usize
-        ensures { result ≡ length self.now.fields }
+        ensures is { result ≡ length self.now.fields }
+        ensures near { self.now.start ≤ 4088 }
     {
         self.fields.len()
     }

@@ -35,10 +35,10 @@ impl Layout {
     }
 
     /// How many fields there are.
-    pub(crate) fn count(&self) -> usize
+    pub(crate) fn count(&self) -> u32
         ensures { result ≡ length self.now }
     {
-        self.placed.count()
+        self.placed.count() as u32
     }
 
     /// How many bytes of the body stand before this field.

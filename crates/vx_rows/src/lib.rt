@@ -11,6 +11,7 @@ mod fields;
 mod layout;
 mod nulls;
 mod slot;
+mod texts;
 mod write;
 
 pub use fields::Extra;

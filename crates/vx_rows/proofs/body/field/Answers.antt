@@ -1,4 +1,4 @@
-use Rattle.std.proofs.Common.{ap, sym, ◌∙◌}
+use Rattle.std.proofs.Common.{sym, ◌∙◌}
 use Rattle.vx_rows.proofs.BodyLemmas.{stored_raw, stored_null, stored_slot}
 use Rattle.vx_rows.proofs.body.field.Goals as goal
 

@@ -1,4 +1,4 @@
-use Rattle.std.proofs.Common.{ap, sym, ◌∙◌, ◌≡◌, ◌+◌, ◌≤◌, length, arith}
+use Rattle.std.proofs.Common.{◌+◌, ◌≤◌, length, arith}
 use Rattle.vx_rows.specs.Body.{seen, spelled}
 use Rattle.vx_rows.specs.Layout.{place_of}
 use Rattle.vx_rows.proofs.BodyLemmas.{room_for_stored}

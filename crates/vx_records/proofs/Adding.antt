@@ -73,8 +73,8 @@ reuses m free now bytes r after listed seen ne is whole spells =
         long = long_kept m (free - 1) bytes s.there whole listed.long;
         numbers = s.rest;
         linked = linked_kept m (with_frame m (free - 1) bytes) (link_in (frame_at m (free - 1))) s.rest (λ k among.
-          let f : IsFree m k = free_in m (link_in (frame_at m (free - 1))) s.rest k s.linked among in
-          same_at m (free - 1) bytes s.there k (λ e. s.alone (subst (λ (x : ℕ). IsIn s.rest x) e among)) f.there) s.linked;
+            let f : IsFree m k = free_in m (link_in (frame_at m (free - 1))) s.rest k s.linked among in
+            same_at m (free - 1) bytes s.there k (λ e. s.alone (subst (λ (x : ℕ). IsIn s.rest x) e among)) f.there) s.linked;
         all = λ k lt none. elim (cases_eq k (free - 1)) as (λ _. IsIn s.rest k) [
           | inl e ↦ absurd (none-some r (sym none ∙ (ap (λ (x : ℕ). record_of (frame_at (with_frame m (free - 1) bytes) x)) e ∙ (ap record_of (changed m (free - 1) bytes s.there) ∙ spells))))
           | inr other_one ↦ s.all k (omega (arith, same, lt)) (sym (ap record_of (other m (free - 1) bytes s.there k other_one)) ∙ none) other_one

@@ -1,6 +1,6 @@
 -- What each change of one record leaves of all, for owners of records.
-use Rattle.std.proofs.Common.{◌≡◌, ◌≢◌, ℕ, ◌<◌, ◌≤◌, Option, Some, None, length, refl, sym, ap, ◌∙◌, arith, inl, inr}
-use Rattle.std.proofs.lemmas.Bool.{cases_lt}
+use Rattle.std.proofs.Common.{◌≡◌, ◌≢◌, ℕ, ◌<◌, ◌≤◌, Option, Some, None, length, refl, sym, ap, ◌∙◌, subst, arith, inl, inr}
+use Rattle.std.proofs.lemmas.Bool.{cases_eq, cases_lt}
 use Rattle.std.proofs.lemmas.Option.{none-some}
 use Rattle.std.proofs.lemmas.List.{get_or-set_same, get_or-set_other, get_or_past, length-set}
 use Rattle.vx_records.specs.Record.{Record, RecordsModel, record_in, record_at, IsLive, with_record, without_record, AddsRecord}
@@ -39,3 +39,16 @@ added_new before after n k r adds live = λ e. none-some (record_at before k) (s
 
 pub added_keeps : (before after : RecordsModel) (n k : ℕ) (r : Record) → AddsRecord before after n r → IsLive before k → record_in after k ≡ record_in before k
 added_keeps before after n k r adds live = adds.others k (added_new before after n k r adds live)
+
+-- what is live stays so, but for what is erased
+pub with_live : (m : RecordsModel) (n k : ℕ) (r : Record) → IsLive m n → IsLive m k → IsLive (with_record m n r) k
+with_live m n k r live other = elim (cases_eq k n) as (λ _. IsLive (with_record m n r) k) [
+  | inl e ↦ subst (λ (x : ℕ). IsLive (with_record m n r) x) (sym e) (live_found (with_record m n r) n r (with_same m n r live))
+  | inr ne ↦ live_found (with_record m n r) k (record_at m k) (with_other m n k r ne ∙ other)
+]
+
+pub without_live : (m : RecordsModel) (n k : ℕ) → k ≢ n → IsLive m k → IsLive (without_record m n) k
+without_live m n k ne live = live_found (without_record m n) k (record_at m k) (without_other m n k ne ∙ live)
+
+pub added_still : (before after : RecordsModel) (n k : ℕ) (r : Record) → AddsRecord before after n r → IsLive before k → IsLive after k
+added_still before after n k r adds live = live_found after k (record_at before k) (added_keeps before after n k r adds live ∙ live)

@@ -12,6 +12,7 @@ use Rattle.vx_records.proofs.Overwriting.{length-written}
 use Rattle.vx_records.proofs.Heading.{Spells, spells, next_set, matched_set, body_set, freed, free_link, length-head_of, new_record}
 use Rattle.vx_records.proofs.Listing.{Lives, lives, in_frames, past_frames, length-records, Rewrites, rewrites, Releases, releases, free_small, Starts, starts}
 use Rattle.vx_records.proofs.Adding.{Adds, reuses, extends}
+use Rattle.vx_records.proofs.Changes.{added_live, with_live}
 
 number_of-link_of : (o : Option ℕ) → number_of (link_of o) ≡ o
 number_of-link_of None = refl
@@ -156,12 +157,13 @@ uses_next m free now body after n listed seen all none last few is = extends m f
 pub record Pushed (now : RecordsModel) (free : ℕ) (body : List ℕ) (after : FramesModel) (result : Result ℕ AllocError) : Type 0 where
   pub listed : IsListed after free
   pub adds : IfOk result (λ n. AddsRecord now (records_of after) n (fresh body))
+  pub live : IfOk result (λ n. IsLive (records_of after) n)
 
 pub pushed : (m : FramesModel) (free : ℕ) (now : RecordsModel) (body : List ℕ) (after : FramesModel) (result : Result ℕ AllocError) → IsListed m free → records_of m ≡ now → length body ≡ now.len → free ≡ 0 → IfOk result (λ n. n ≡ length m.frames) → IfOk result (λ n. n < 2 ^ 31) → IfOk result (λ _. after ≡ and_frame m (head_of 0 1 ++ body)) → OnErr result (after ≡ m) → Pushed now free body after result
 pushed m free now body after (Ok n) listed seen all none last few is err =
     let a : Adds now n (fresh body) after free = uses_next m free now body after n listed seen all none last few is in
-    record { listed = a.listed; adds = a.adds }
-pushed m free now body after (Err e) listed seen all none last few is err = record { listed = subst (λ (x : FramesModel). IsListed x free) (sym err) listed; adds = tt }
+    record { listed = a.listed; adds = a.adds; live = added_live now (records_of after) n (fresh body) a.adds }
+pushed m free now body after (Err e) listed seen all none last few is err = record { listed = subst (λ (x : FramesModel). IsListed x free) (sym err) listed; adds = tt; live = tt }
 
 -- no records
 pub no_records : (size : ℕ) → 8 ≤ size → size ≤ 4096 → IsListed (record { size = size; frames = [] }) 0
@@ -186,3 +188,7 @@ cleared m now after seen is = ap records_of is ∙ ap (λ (x : RecordsModel). le
 pub link_fits : (next : Option ℕ) → IfSome next (λ n. n + 1 < 2 ^ 32) → link_of next < 2 ^ 32
 link_fits None fits = omega arith
 link_fits (Some n) fits = fits
+
+-- a record that was rewritten is still live
+pub still_live : (now after : RecordsModel) (n : ℕ) (r : Record) → IsLive now n → after ≡ with_record now n r → IsLive after n
+still_live now after n r live is = subst (λ (m : RecordsModel). IsLive m n) (sym is) (with_live now n n r live live)

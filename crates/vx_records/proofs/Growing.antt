@@ -47,11 +47,11 @@ same_frames size per region count are =
     let after : RegionModel = after_grow region 4096 in
     let long : length (frames_of size after count) ≡ count = length-frames_of size after count in
     ext_get_or [] (frames_of size after count) (frames_of size region count) (long ∙ sym (length-frames_of size region count)) (λ k less.
-      let there : k < count = omega (arith, less, long) in
-      let s : Stands size region k = stands size per region count k are there in
-      frames_at size after count k there
-      ∙ (ap (λ (c : List ℕ). take size (drop (place_of size k).at c)) (get_or_append_left region (replicate 4096 0 ∷ []) [] (place_of size k).chunk s.chunk)
-      ∙ sym (frames_at size region count k there)))
+    let there : k < count = omega (arith, less, long) in
+    let s : Stands size region k = stands size per region count k are there in
+    frames_at size after count k there
+    ∙ (ap (λ (c : List ℕ). take size (drop (place_of size k).at c)) (get_or_append_left region (replicate 4096 0 ∷ []) [] (place_of size k).chunk s.chunk)
+    ∙ sym (frames_at size region count k there)))
 
 zeros_long : length {A = ℕ} (replicate 4096 0) ≡ 4096
 zeros_long = let zero_byte : ℕ = 0 in length-replicate 4096 zero_byte

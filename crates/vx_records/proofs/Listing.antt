@@ -52,9 +52,13 @@ pub record IsSame (m after : FramesModel) (k : ℕ) : Type 0 where
 pub linked_kept : (m after : FramesModel) (link : ℕ) (list : List ℕ) → ((k : ℕ) → IsIn list k → IsSame m after k) → IsLinked m link list → IsLinked after link list
 linked_kept m after link [] same linked = linked
 linked_kept m after link (n ∷ rest) same linked =
-    let s : IsSame m after n = same n (inl refl) in
-    (linked.0, s.there, ap record_of s.same ∙ linked.2, linked.3,
-      subst (λ (f : List ℕ). IsLinked after (link_in f) rest) (sym s.same) (linked_kept m after (link_in (frame_at m n)) rest (λ k later. same k (inr later)) linked.4))
+    let s : IsSame m after n = same n (inl refl) in (
+      linked.0,
+      s.there,
+      ap record_of s.same ∙ linked.2,
+      linked.3,
+      subst (λ (f : List ℕ). IsLinked after (link_in f) rest) (sym s.same) (linked_kept m after (link_in (frame_at m n)) rest (λ k later. same k (inr later)) linked.4),
+    )
 
 not_both : (m : FramesModel) (n k : ℕ) (r : Record) → record_of (frame_at m n) ≡ Some r → record_of (frame_at m k) ≡ None → k ≢ n
 not_both m n k r live free = λ e. none-some r (sym free ∙ (ap (λ (x : ℕ). record_of (frame_at m x)) e ∙ live))
@@ -106,8 +110,8 @@ rewrites m free now n r bytes after listed seen live is whole spells =
         long = long_kept m n bytes l.there whole listed.long;
         numbers = listed.numbers;
         linked = linked_kept m (with_frame m n bytes) free listed.numbers (λ k among.
-          let f : IsFree m k = free_in m free listed.numbers k listed.linked among in
-          same_at m n bytes l.there k (not_both m n k (record_at now n) l.spells f.free) f.there) listed.linked;
+            let f : IsFree m k = free_in m free listed.numbers k listed.linked among in
+            same_at m n bytes l.there k (not_both m n k (record_at now n) l.spells f.free) f.there) listed.linked;
         all = λ k lt none. elim (cases_eq k n) as (λ _. IsIn listed.numbers k) [
           | inl e ↦ absurd (none-some r (sym none ∙ (ap (λ (x : ℕ). record_of (frame_at (with_frame m n bytes) x)) e ∙ (ap record_of (changed m n bytes l.there) ∙ spells))))
           | inr ne ↦ listed.all k (let same : length (with_frame m n bytes).frames ≡ length m.frames = same_length m n bytes l.there in omega (arith, same, lt)) (sym (ap record_of (other m n bytes l.there k ne)) ∙ none)
@@ -126,8 +130,8 @@ pub releases : (m : FramesModel) (free : ℕ) (now : RecordsModel) (n : ℕ) (by
 releases m free now n bytes after listed seen live is whole spells link =
     let l : Lives m n (record_at now n) = lives m now n seen live in
     let rest : IsLinked (with_frame m n bytes) free listed.numbers = linked_kept m (with_frame m n bytes) free listed.numbers (λ k among.
-      let f : IsFree m k = free_in m free listed.numbers k listed.linked among in
-      same_at m n bytes l.there k (not_both m n k (record_at now n) l.spells f.free) f.there) listed.linked in
+    let f : IsFree m k = free_in m free listed.numbers k listed.linked among in
+    same_at m n bytes l.there k (not_both m n k (record_at now n) l.spells f.free) f.there) listed.linked in
     let here : frame_at (with_frame m n bytes) n ≡ bytes = changed m n bytes l.there in
     let same : length (with_frame m n bytes).frames ≡ length m.frames = same_length m n bytes l.there in
     let w : Releases m now n (with_frame m n bytes) = record {
@@ -137,9 +141,13 @@ releases m free now n bytes after listed seen live is whole spells link =
         few = few_kept m n bytes l.there listed.few;
         long = long_kept m n bytes l.there whole listed.long;
         numbers = n ∷ listed.numbers;
-        linked = (refl, let lt : n < length m.frames = l.there in omega (arith, same, lt), ap record_of here ∙ spells,
+        linked = (
+          refl,
+          let lt : n < length m.frames = l.there in omega (arith, same, lt),
+          ap record_of here ∙ spells,
           λ among. not_both m n n (record_at now n) l.spells (free_in m free listed.numbers n listed.linked among).free refl,
-          subst (λ (x : ℕ). IsLinked (with_frame m n bytes) x listed.numbers) (sym (ap link_in here ∙ link)) rest);
+          subst (λ (x : ℕ). IsLinked (with_frame m n bytes) x listed.numbers) (sym (ap link_in here ∙ link)) rest,
+        );
         all = λ k lt none. elim (cases_eq k n) as (λ _. (k ≡ n) ⊎ IsIn listed.numbers k) [
           | inl e ↦ inl e
           | inr ne ↦ inr (listed.all k (omega (arith, same, lt)) (sym (ap record_of (other m n bytes l.there k ne)) ∙ none))

@@ -19,7 +19,6 @@ written_back s rest from k =
     let moved : length s + k + length from ≡ length s + (k + length from) = omega arith in
     rw moved (rw (take-append-add s rest k) (rw (drop-append-add s rest (k + length from)) (rw (append_assoc s (take k rest) from) (append_assoc s (take k rest ++ from) (drop (k + length from) rest)))))
 
-
 -- what lies before the bytes that were put
 pub part_before : (bytes from : List ℕ) (at p len : ℕ) → p + len ≤ at → at + length from ≤ length bytes → take len (drop p (written bytes at from)) ≡ take len (drop p bytes)
 part_before bytes from at p len before inside =

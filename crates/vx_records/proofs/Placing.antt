@@ -132,20 +132,20 @@ written_frames size per region count number at from are lt within =
     let long : length old ≡ count = length-frames_of size region count in
     let longer : length (frames_of size after count) ≡ count = length-frames_of size after count in
     ext_get_or [] (frames_of size after count) (set old number new) (longer ∙ (sym long ∙ sym (length-set old number new))) (λ k less.
-      let there : k < count = omega (arith, less, longer) in
-      frames_at size after count k there ∙ elim (cases_eq k number) as (λ _. frame_in size after k ≡ get_or (set old number new) k []) [
-        | inl e ↦
-            let here : number < length old = omega (arith, long, lt) in
-            ap (frame_in size after) e
-            ∙ (frame_written size per region count number at from are lt within
-            ∙ (ap (λ (x : List ℕ). written x at from) (sym (frames_at size region count number lt))
-            ∙ (sym (get_or-set_same old number new [] here)
-            ∙ ap (λ (n : ℕ). get_or (set old number new) n []) (sym e))))
-        | inr ne ↦
-            frame_kept size per region count number at from k are lt within there ne
-            ∙ (sym (frames_at size region count k there)
-            ∙ sym (get_or-set_other old number k new [] ne))
-      ])
+    let there : k < count = omega (arith, less, longer) in
+    frames_at size after count k there ∙ elim (cases_eq k number) as (λ _. frame_in size after k ≡ get_or (set old number new) k []) [
+      | inl e ↦
+          let here : number < length old = omega (arith, long, lt) in
+          ap (frame_in size after) e
+          ∙ (frame_written size per region count number at from are lt within
+          ∙ (ap (λ (x : List ℕ). written x at from) (sym (frames_at size region count number lt))
+          ∙ (sym (get_or-set_same old number new [] here)
+          ∙ ap (λ (n : ℕ). get_or (set old number new) n []) (sym e))))
+      | inr ne ↦
+          frame_kept size per region count number at from k are lt within there ne
+          ∙ (sym (frames_at size region count k there)
+          ∙ sym (get_or-set_other old number k new [] ne))
+    ])
 
 whole_set : (region : RegionModel) (number : ℕ) (bytes : List ℕ) → ((k : ℕ) → k < length region → length (chunk_at region k) ≡ 4096) → number < length region → length bytes ≡ 4096 → (k : ℕ) → k < length (set region number bytes) → length (chunk_at (set region number bytes) k) ≡ 4096
 whole_set region number bytes whole lt long k less = elim (cases_eq k number) as (λ _. length (chunk_at (set region number bytes) k) ≡ 4096) [

@@ -45,6 +45,7 @@ impl Records {
     pub fn add(&mut self, body: &[u8]) -> Result<u32, AllocError>
         requires { length body.now ≡ self.old.len }
         ensures ok { IfOk result (λ number. AddsRecord self.old self.new number (fresh body.now)) }
+        ensures there { IfOk result (λ number. IsLive self.new number) }
         ensures err { OnErr result (self.new ≡ self.old) }
     {
         if self.free == 0 {
@@ -89,7 +90,8 @@ impl Records {
     pub fn write(&mut self, number: u32, at: u32, from: &[u8])
         requires live { IsLive self.old number }
         requires inside { at + length from.now ≤ self.old.len }
-        ensures { self.new ≡ with_record self.old number (record (record_at self.old number) { body = written (record_at self.old number).body at from.now }) }
+        ensures set { self.new ≡ with_record self.old number (record (record_at self.old number) { body = written (record_at self.old number).body at from.now }) }
+        ensures there { IsLive self.new number }
     {
         let _ = &self.free;
         self.frames.put(number, HEAD + at, from);
@@ -111,7 +113,8 @@ impl Records {
     pub fn set_next(&mut self, number: u32, next: Option<u32>)
         requires live { IsLive self.old number }
         requires fits { IfSome next (λ next. next + 1 < 2 ^ 32) }
-        ensures { self.new ≡ with_record self.old number (record (record_at self.old number) { next = next }) }
+        ensures set { self.new ≡ with_record self.old number (record (record_at self.old number) { next = next }) }
+        ensures there { IsLive self.new number }
     {
         let _ = &self.free;
         self.frames.put(number, 0, &link_of(next).to_le_bytes());
@@ -131,7 +134,8 @@ impl Records {
     #[inline]
     pub fn set_matched(&mut self, number: u32)
         requires { IsLive self.old number }
-        ensures { self.new ≡ with_record self.old number (record (record_at self.old number) { matched = true }) }
+        ensures set { self.new ≡ with_record self.old number (record (record_at self.old number) { matched = true }) }
+        ensures there { IsLive self.new number }
     {
         let _ = &self.free;
         mark(&mut self.frames, number);

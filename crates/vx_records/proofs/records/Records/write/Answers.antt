@@ -1,5 +1,5 @@
 use Rattle.std.proofs.Common.{◌+◌, ◌^◌, ◌<◌, ◌≤◌, length, arith}
-use Rattle.vx_records.proofs.Editing.{there, writes, body_fits, at_fits}
+use Rattle.vx_records.proofs.Editing.{there, still_live, writes, body_fits, at_fits}
 use Rattle.vx_records.proofs.records.Records.write.Goals as goal
 
 pub overflow_add-at : goal.overflow_add-at
@@ -16,5 +16,8 @@ put-requires-clause-inside c = body_fits c.self.inside.frames c.self.inside.free
 pub invariant_of-self : goal.invariant_of-self
 invariant_of-self c = (writes c.self.inside.frames c.self.inside.free c.args.self.now c.args.number c.self.invariant c.self.view_is c.requires.live c.args.at c.args.from.now c.put.new.self c.requires.inside c.put.ensures).listed
 
-pub returns : goal.returns
-returns c = (writes c.self.inside.frames c.self.inside.free c.args.self.now c.args.number c.self.invariant c.self.view_is c.requires.live c.args.at c.args.from.now c.put.new.self c.requires.inside c.put.ensures).seen
+pub returns-clause-set : goal.returns-clause-set
+returns-clause-set c = (writes c.self.inside.frames c.self.inside.free c.args.self.now c.args.number c.self.invariant c.self.view_is c.requires.live c.args.at c.args.from.now c.put.new.self c.requires.inside c.put.ensures).seen
+
+pub returns-clause-there : goal.returns-clause-there
+returns-clause-there c = still_live c.args.self.now _ c.args.number _ c.requires.live (writes c.self.inside.frames c.self.inside.free c.args.self.now c.args.number c.self.invariant c.self.view_is c.requires.live c.args.at c.args.from.now c.put.new.self c.requires.inside c.put.ensures).seen

@@ -1,9 +1,11 @@
 pub mod BodyLemmas
+pub mod ContainerLemmas
 pub mod Filling
 pub mod Holding
 pub mod LayoutLemmas
 pub mod NullLemmas
 pub mod ResultLemmas
+pub mod RowLemmas
 pub mod SlotLemmas
 pub mod Taking
 pub mod WriteLemmas

@@ -251,3 +251,43 @@ resized_stored fields body front bytes len count bytes_are len_is count_is front
     let all : take bytes front ≡ front = take_all bytes front (omega (arith, bytes_are, len_is, many, near)) in
     let front_at : front ≡ replicate (null_len (length fields)) 255 = front_is ∙ ap (λ (n : ℕ). replicate n 255) len_is in
     empty_stored fields (bytes - count) (omega (arith, bytes_are, len_is, count_is, near)) body (is ∙ ap (λ (l : List ℕ). l ++ replicate (bytes - count) 0) (all ∙ front_at))
+
+-- ---- bytes of an accumulator written alone
+
+module _ (fields : List Extra) (body from : List ℕ) (which count : ℕ) (less : which < length fields) (whole : length body ≡ body_len fields) (is_bytes : field_at fields which ≡ extra.Bytes count) (many : length from ≡ count) where
+  long : length from ≡ field_len (field_at fields which)
+  long = many ∙ sym (ap field_len is_bytes)
+
+  over_inside : place_of fields which + length from ≤ length body
+  over_inside = omega (arith, long, whole, field_inside fields which less)
+
+  over : List ℕ
+  over = written body (place_of fields which) from
+
+  raw_other : (i : ℕ) → (i < which) ⊎ (which < i) → i < length fields → bytes_of fields over i ≡ bytes_of fields body i
+  unfolding over
+  raw_other i (inl below) near = part_before body (place_of fields which) from (place_of fields i) (field_len (field_at fields i)) (fields_apart fields i which below less) (omega (arith, over_inside))
+  raw_other i (inr above) near = part_behind body (place_of fields which) from (place_of fields i) (field_len (field_at fields i)) (omega (arith, long, fields_apart fields which i above near)) over_inside
+
+  raw_null : (i : ℕ) → i < length fields → is_null_in over i ≡ is_null_in body i
+  unfolding is_null_in over
+  raw_null i near = ap (λ (n : ℕ). eqb (bit_at n (i % 8)) 1) (byte_before body (place_of fields which) from (i / 8) (let bit : i / 8 < null_len (length fields) = null_inside fields i near in omega (arith, bit)) (omega (arith, over_inside)))
+
+  raw_own : stored_in fields over which ≡ raw from
+  unfolding over
+  raw_own = sym (stored_raw fields (written body (place_of fields which) from) which count from is_bytes (sym (there body (place_of fields which) from (field_len (field_at fields which)) (sym long) (omega (arith, over_inside)))))
+
+  raw_others : (i : ℕ) → (i < which) ⊎ (which < i) → i < length fields → stored_in fields over i ≡ stored_in fields body i
+  unfolding stored_in
+  raw_others i apart near =
+      let b : bytes_of fields over i ≡ bytes_of fields body i = raw_other i apart near in
+      let n : is_null_in over i ≡ is_null_in body i = raw_null i near in
+      λ k. read_field (field_at fields i) (n k) (b k)
+
+  pub raw_put : all_stored fields (written body (place_of fields which) from) ≡ set (all_stored fields body) which (raw from)
+  unfolding over
+  raw_put =
+      let all : length (all_stored fields body) ≡ length fields = stored_many fields body in
+      set_is (all_stored fields (written body (place_of fields which) from)) (all_stored fields body) which (raw from) (stored_many fields (written body (place_of fields which) from) ∙ sym all) (omega (arith, all, less)) (stored_at fields (written body (place_of fields which) from) which less ∙ raw_own) (λ i apart near.
+      let near_field : i < length fields = omega (arith, all, near) in
+      stored_at fields (written body (place_of fields which) from) i near_field ∙ (raw_others i apart near_field ∙ sym (stored_at fields body i near_field)))

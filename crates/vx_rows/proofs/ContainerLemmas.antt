@@ -55,7 +55,7 @@ new_seen kinds extras fields records arena is made fresh_arena =
 -- ---- a row erased
 
 module _ (a d : ArenaModel) (columns : ℕ) (fields : List Extra) (records now : RecordsModel) (empty scratch : List ℕ) (n : ℕ) (row : LiveRow) (body : List ℕ) (keeps : IsContainer columns fields records a empty scratch) (parts : LiveParts a columns fields records n row) (body_is : body ≡ (record_at records n).body) where
-  own_body : body ≡ parts.r.body
+  pub own_body : body ≡ parts.r.body
   own_body = body_is ∙ ap (λ (r : Record). r.body) parts.at
 
   pub held_body : Holds a (all_stored fields body)

@@ -37,8 +37,8 @@ zero_kept : (a : ArenaModel) (e : Extra) → IsKept a (zero_of e)
 zero_kept a (extra.Bytes count) = tt
 zero_kept a (extra.Slot k) = tt
 
-pub filled_none : (a : ArenaModel) (fields : List Extra) (xs : List Stored) (row : List Value) → a.taken < 2 ^ 64 → xs ≡ empty_of fields → FilledSoFar a a (empty_of fields) xs row 0
-filled_none a fields xs row fits is = record {
+pub filled_none : (a : ArenaModel) (fields : List Extra) (xs : List Stored) (cells : List Value) → a.taken < 2 ^ 64 → xs ≡ empty_of fields → FilledSoFar a a (empty_of fields) xs cells 0
+filled_none a fields xs cells fits is = record {
   adds = subst (λ (l : List Stored). Adds a a l 0) (sym is) (adds_nothing a (empty_of fields) fits (All-map IsPlain zero_of fields (λ k e less. zero_plain (get_or fields k e))) (All-map (IsKept a) zero_of fields (λ k e less. zero_kept a (get_or fields k e))));
   done = refl;
   rest = is;

@@ -1,5 +1,8 @@
+pub mod AccumulatorLemmas
 pub mod BodyLemmas
+pub mod ChangeLemmas
 pub mod ContainerLemmas
+pub mod FieldLemmas
 pub mod Filling
 pub mod Holding
 pub mod LayoutLemmas

@@ -69,7 +69,7 @@ map_same f g (x ∷ xs) same =
     let tail : map f xs ≡ map g xs = map_same f g xs (All-tail (λ x. f x ≡ g x) x xs same) in
     λ k. head k ∷ tail k
 
-held_same : (a d : ArenaModel) (s : Stored) → SameValue a d s → held_of d s ≡ held_of a s
+pub held_same : (a d : ArenaModel) (s : Stored) → SameValue a d s → held_of d s ≡ held_of a s
 held_same a d null same = refl
 held_same a d (bool b) same = refl
 held_same a d (int n) same = refl
@@ -90,7 +90,7 @@ row_same a d columns fields r same =
     let helds : map (held_of d) (drop columns (all_stored fields r.body)) ≡ map (held_of a) (drop columns (all_stored fields r.body)) = helds_same a d (drop columns (all_stored fields r.body)) (All-drop (SameValue a d) columns (all_stored fields r.body) same) in
     λ k. record { next = r.next; matched = r.matched; cells = cells k; extras = helds k }
 
-all_before : (P : Stored → Type 0) (xs ys : List Stored) → All P (xs ++ ys) → All P xs
+pub all_before : (P : Stored → Type 0) (xs ys : List Stored) → All P (xs ++ ys) → All P xs
 all_before P [] ys all = λ k d less. absurd (omega (arith, less))
 all_before P (x ∷ xs) ys all = All-cons P x xs (All-head P x (xs ++ ys) all) (all_before P xs ys (All-tail P x (xs ++ ys) all))
 
@@ -168,7 +168,7 @@ module _ (a d : ArenaModel) (columns : ℕ) (fields : List Extra) (before after 
 
 -- ---- blocks of a row
 
-kept_blocks : (d : ArenaModel) (s : Stored) → IsKept d s → blocks_of_value (value_of d s) ≡ blocks_in s
+pub kept_blocks : (d : ArenaModel) (s : Stored) → IsKept d s → blocks_of_value (value_of d s) ≡ blocks_in s
 kept_blocks d null kept = refl
 kept_blocks d (bool b) kept = refl
 kept_blocks d (int n) kept = refl
@@ -182,7 +182,7 @@ kept_blocks d (long len front place) kept =
     rw (kept.whole, test) refl
 kept_blocks d (raw b) kept = refl
 
-held_blocks : (d : ArenaModel) (s : Stored) → IsKept d s → blocks_of_held (held_of d s) ≡ blocks_in s
+pub held_blocks : (d : ArenaModel) (s : Stored) → IsKept d s → blocks_of_held (held_of d s) ≡ blocks_in s
 held_blocks d null kept = refl
 held_blocks d (bool b) kept = refl
 held_blocks d (int n) kept = refl

@@ -1,5 +1,5 @@
 -- A container of rows: what its records and its arena stand for, and what each call does to the list of its rows.
-use Rattle.std.specs.Prelude.{◌≡◌, ℕ, ◌+◌, ◌^◌, ◌<◌, ◌≤◌, Bool, false, Option, Some, None, is_some, List, [], length, map, take, drop, replicate, slice_index_or, slice_set, unwrap_or}
+use Rattle.std.specs.Prelude.{◌≡◌, ℕ, ◌+◌, ◌^◌, ◌<◌, ◌≤◌, Bool, true, false, Option, Some, None, is_some, List, [], length, map, take, drop, replicate, slice_index_or, slice_set, unwrap_or}
 use Rattle.std.specs.List.{sum_by, flat_map, filter, range_with_len}
 use Rattle.vx_arena.specs.Text.{ArenaModel, more}
 use Rattle.vx_arena.specs.Part.{Pays}
@@ -11,6 +11,7 @@ use Rattle.vx_value.specs.declared.value.Value.TheVariants as value
 use Rattle.vx_value.specs.Row.{Row, value_at}
 use Rattle.vx_rows.specs.declared.fields.Extra.{Extra}
 use Rattle.vx_rows.specs.declared.fields.Extra.TheVariants as extra
+use Rattle.vx_vector.specs.Column.{FitsKind}
 use Rattle.vx_rows.specs.Layout.{body_len, fields_of}
 use Rattle.vx_rows.specs.Body.{Stored, null, bool, int, short, long, raw, all_stored}
 use Rattle.vx_rows.specs.Texts.{Holds, blocks_of_value, empty_of, value_of}
@@ -66,6 +67,35 @@ IsLive container number = row_at container number ≡ Some (live container numbe
 -- another row in place of that of this number, and all others as they were
 abbrev pub with_row : ContainerModel → ℕ → LiveRow → List (Option LiveRow)
 with_row container number row = slice_set container.rows number (Some row)
+
+-- the accumulator of a number
+abbrev pub held_at : LiveRow → ℕ → Held
+held_at row which = slice_index_or row.extras which (cell value.Null)
+
+-- another accumulator in its place
+abbrev pub with_held : LiveRow → ℕ → Held → LiveRow
+with_held row which held = record row { extras = slice_set row.extras which held }
+
+-- the accumulator of this number has so many bytes, or is a cell
+abbrev pub HasBytes : List Extra → ℕ → ℕ → Type 0
+HasBytes extras which count = slice_index_or extras which (extra.Slot kind.Bool) ≡ extra.Bytes count
+
+abbrev pub is_bytes : Extra → Bool
+is_bytes (extra.Bytes count) = true
+is_bytes (extra.Slot k) = false
+
+-- the accumulator of this number has bytes
+abbrev pub IsBytes : List Extra → ℕ → Type 0
+IsBytes extras which = is_bytes (slice_index_or extras which (extra.Slot kind.Bool)) ≡ true
+
+-- it is a cell
+abbrev pub IsSlot : List Extra → ℕ → Type 0
+IsSlot extras which = is_bytes (slice_index_or extras which (extra.Bytes 0)) ≡ false
+
+-- it is a cell that such a value fits
+abbrev pub TakesValue : Extra → Value → Type 0
+TakesValue (extra.Bytes count) v = ⊥
+TakesValue (extra.Slot k) v = FitsKind k v
 
 -- the numbers of live rows, ascending
 abbrev pub live_numbers : List (Option LiveRow) → List ℕ
@@ -158,3 +188,9 @@ pub record Gives (before after : ArenaModel) (blocks : ℕ) : Type 0 where
   pub taken : after.taken ≡ before.taken
   pub given : after.given ≡ more before.given blocks
   pub pays : Pays before.chunks after.chunks 0
+
+-- so many blocks were taken, and then so many given back
+pub record Changes (before after : ArenaModel) (new old cost : ℕ) : Type 0 where
+  pub taken : after.taken ≡ more before.taken new
+  pub given : after.given ≡ more before.given old
+  pub pays : Pays before.chunks after.chunks cost

@@ -1,23 +1,25 @@
-ghost use Rattle.std.specs.Prelude.{◌≡◌, ◌+◌, ◌*◌, ◌^◌, ◌≤◌, ◌<◌, Some, None, true, [], length, map, slice_set, IfOk, OnErr, IfSome};
-ghost use Rattle.std.specs.List.{sum_by};
+ghost use Rattle.std.specs.Prelude.{◌≡◌, ◌+◌, ◌*◌, ◌^◌, ◌≤◌, ◌<◌, ◌↔◌, Some, None, true, [], length, map, slice_index_or, slice_set, All, IfOk, OnErr, OnOk, IfSome, IsTrue, is_some};
+ghost use Rattle.std.specs.List.{filter, range_with_len, sum_by};
 ghost use Rattle.std.specs.Int.{div_ceil};
 ghost use Rattle.vx_arena.specs.Chunks.{held_by};
 ghost use Rattle.vx_arena.specs.Names.{lives};
 ghost use Rattle.vx_arena.specs.Text.{more};
+ghost use Rattle.vx_records.specs.Record.{record_in};
 ghost use Rattle.vx_vector.specs.Batch.{kinds_of, row_of};
 ghost use Rattle.vx_rows.specs.Layout.{fields_of, row_len, rows_a_chunk};
-ghost use Rattle.vx_rows.specs.Texts.{text_cost};
-ghost use Rattle.vx_rows.specs.Container.{AddsRow, Gives, IsLive, Takes, TakesBack, blocks_of_row, live, live_numbers, new_row, with_row};
+ghost use Rattle.vx_rows.specs.Texts.{blocks_of_value, text_cost};
+ghost use Rattle.vx_value.specs.Value.{owned, IsLawful};
+ghost use Rattle.vx_rows.specs.Container.{AddsRow, Changes, Gives, HasBytes, IsBytes, TakesValue, blocks_of_held, with_held, IsSlot, bytes, cell, held_at, key_values, IsLive, Takes, TakesBack, blocks_of_row, live, live_numbers, new_row, with_row};
 
-use crate::body::empty_body;
+use crate::body::{bytes_at, empty_body, field, put};
 use crate::fields::Extra;
 use crate::layout::Layout;
-use crate::texts::{fill, release};
+use crate::texts::{cells, fill, give, is_stored, release, store, value};
 use std::alloc::{AllocError, Global};
 use std::marker::Model;
 use vx_arena::Arena;
 use vx_records::Records;
-use vx_value::Kind;
+use vx_value::{Kind, Row, Value, ValueRef};
 use vx_vector::Batch;
 
 /// Rows by number, with their texts. A number that was erased is used again.
@@ -161,4 +163,113 @@ impl RowContainer {
         let _columns = &self.columns;
         self.records.set_matched(row);
     }
+
+    /// The values of a row's columns.
+    pub fn get(&self, alloc: Global, row: u32) -> Result<Row, AllocError>
+        requires { IsLive self.now row }
+        ensures { IfOk result (λ cells. cells ≡ (live self.now row).cells) }
+    {
+        let body = self.records.body(row);
+        cells(alloc, &self.arena, &self.layout, body, self.columns)
+    }
+
+    /// Whether a row's `columns` have the values that the columns `of` have in a row of a batch.
+    pub fn key_equals(&self, row: u32, columns: &[u32], batch: &Batch, at: u32, of: &[u32]) -> bool
+        requires live { IsLive self.now row }
+        requires at { at < batch.now.rows }
+        requires many { length columns.now ≡ length of.now }
+        requires columns { All (λ c. c < length self.now.kinds) columns.now }
+        requires of { All (λ c. c < length batch.now.columns.items) of.now }
+        ensures { IsTrue result ↔ (key_values columns.now (live self.now row).cells ≡ key_values of.now (row_of batch.now.columns.items at)) }
+    {
+        let body = self.records.body(row);
+        for place in 0..columns.len() {
+            let stored = field(body, &self.layout, columns[place]);
+            let value = batch.columns[of[place] as usize].get(at);
+            if !is_stored(&self.arena, stored, value) {
+                return false;
+            }
+        }
+        true
+    }
+
+    /// The bytes of an accumulator.
+    #[inline]
+    pub fn extra(&self, row: u32, which: u32) -> &[u8]
+        requires live { IsLive self.now row }
+        requires bytes { IsBytes self.now.extras which }
+        ensures { held_at (live self.now row) which ≡ bytes result.now }
+    {
+        let _count = self.layout.count();
+        bytes_at(self.records.body(row), &self.layout, self.columns + which)
+    }
+
+    /// The cell of an accumulator.
+    pub fn slot(&self, alloc: Global, row: u32, which: u32) -> Result<Value, AllocError>
+        requires live { IsLive self.now row }
+        requires slot { IsSlot self.now.extras which }
+        ensures { IfOk result (λ value. held_at (live self.now row) which ≡ cell value) }
+    {
+        let _count = self.layout.count();
+        let stored = field(self.records.body(row), &self.layout, self.columns + which);
+        value(alloc, &self.arena, stored)
+    }
+
+    /// Puts these bytes into an accumulator.
+    #[inline]
+    pub fn set_extra(&mut self, row: u32, which: u32, from: &[u8])
+        requires live { IsLive self.old row }
+        requires bytes { HasBytes self.old.extras which (length from.now) }
+        ensures { self.new ≡ record self.old { rows = with_row self.old row (with_held (live self.old row) which (bytes from.now)) } }
+    {
+        let (_count, _body) = (self.layout.count(), self.records.body(row));
+        let at = self.layout.at(self.columns + which);
+        self.records.write(row, at, from);
+    }
+
+    /// Puts this value into an accumulator's cell. An old text is given back after the new one was taken.
+    pub fn set_slot(&mut self, row: u32, which: u32, value: ValueRef<'_>) -> Result<(), AllocError>
+        requires live { IsLive self.old row }
+        requires kind { TakesValue (slice_index_or self.old.extras which (Extra.Bytes 0)) (owned value) }
+        requires lawful { IsLawful (owned value) }
+        ensures ok { OnOk result (self.new.rows ≡ with_row self.old row (with_held (live self.old row) which (cell (owned value.entry)))) }
+        ensures changes { OnOk result (Changes self.old.arena self.new.arena (blocks_of_value (owned value.entry)) (blocks_of_held (held_at (live self.old row) which)) (text_cost (owned value.entry))) }
+
+        // After an error no row has changed, and what was taken was given back.
+        ensures err { OnErr result (self.new.rows ≡ self.old.rows) }
+        ensures back { OnErr result (TakesBack self.old.arena self.new.arena (text_cost (owned value.entry))) }
+        ensures kinds { self.new.kinds ≡ self.old.kinds }
+        ensures extras { self.new.extras ≡ self.old.extras }
+    {
+        let _count = self.layout.count();
+        let place = self.columns + which;
+        let stored = store(&mut self.arena, value)?;
+        self.scratch.copy_from_slice(self.records.body(row));
+        let old = field(self.scratch.as_slice(), &self.layout, place);
+        give(&mut self.arena, old);
+        put(self.scratch.as_mut_slice(), &self.layout, place, stored);
+        self.records.write(row, 0, self.scratch.as_slice());
+        Ok(())
+    }
+
+    /// The numbers of all rows, ascending.
+    pub fn live(&self, alloc: Global) -> Result<Vec<u32>, AllocError>
+        ensures { IfOk result (λ numbers. numbers.items ≡ live_numbers self.now.rows) }
+    {
+        let _columns = &self.columns;
+        live_records(alloc, &self.records)
+    }
+}
+
+/// The numbers of all records, ascending.
+fn live_records(alloc: Global, records: &Records) -> Result<Vec<u32>, AllocError>
+    ensures { IfOk result (λ numbers. numbers.items ≡ filter (λ n. is_some (record_in records.now n)) (range_with_len 0 (length records.now.records))) }
+{
+    let mut numbers = Vec::new(alloc);
+    for number in 0..records.numbers() {
+        if records.is_live(number) {
+            numbers.push(number)?;
+        }
+    }
+    Ok(numbers)
 }

@@ -1,4 +1,4 @@
-ghost use Rattle.std.specs.Prelude.{◌≡◌, ◌↔◌, [], ◌∷◌, ◌^◌, ◌≤◌, ◌<◌, IfOk, OnErr, IsTrue, length, take};
+ghost use Rattle.std.specs.Prelude.{◌≡◌, ◌↔◌, [], ◌∷◌, ◌^◌, ◌≤◌, ◌<◌, IfOk, OnErr, IsTrue, length, map, take};
 ghost use Rattle.vx_arena.specs.Text.{bytes_at, IsText};
 ghost use Rattle.vx_value.specs.Value.{owned, IsLawful, IsText as IsLawfulText};
 ghost use Rattle.vx_value.specs.declared.value.Value.TheVariants as values;
@@ -6,7 +6,7 @@ ghost use Rattle.vx_vector.specs.Batch.{kinds_of, row_of};
 ghost use Rattle.std.specs.List.{sum_by};
 ghost use Rattle.vx_rows.specs.Layout.{body_len};
 ghost use Rattle.vx_rows.specs.Body.{all_stored, long, seen};
-ghost use Rattle.vx_rows.specs.Texts.{value_of, text_cost, IsKept, Adds, Fills, HasColumns, Holds, empty_of, Frees, Keeps, Stores};
+ghost use Rattle.vx_rows.specs.Texts.{value_of, text_cost, StandsAt, IsKept, Adds, Fills, HasColumns, Holds, empty_of, Frees, Keeps, Stores};
 
 use crate::body::{field, put};
 use crate::field::FieldRef;
@@ -14,7 +14,7 @@ use crate::layout::Layout;
 use std::alloc::{AllocError, Global};
 use vx_arena::Arena;
 use vx_raw::Place;
-use vx_value::{Txt, Value, ValueRef};
+use vx_value::{Row, Txt, Value, ValueRef};
 use vx_vector::Batch;
 
 /// How many bytes of a text stand in its slot at most.
@@ -137,4 +137,86 @@ fn long_value(alloc: Global, arena: &Arena, len: u32, place: Place) -> Result<Va
     let mut bytes = Vec::with_capacity(alloc, len as usize)?;
     arena.read_text(place, u64::from(len), &mut bytes)?;
     Ok(Value::Text(Txt::of(alloc, bytes.as_slice())?))
+}
+
+/// The values of the first so many fields.
+pub(crate) fn cells(
+    alloc: Global,
+    arena: &Arena,
+    layout: &Layout,
+    body: &[u8],
+    columns: u32,
+) -> Result<Row, AllocError>
+    requires body { length body.now ≡ body_len layout.now }
+    requires held { Holds arena.now (all_stored layout.now body.now) }
+    requires columns { columns ≤ length layout.now }
+    ensures { IfOk result (λ row. row ≡ map (value_of arena.now) (take columns (all_stored layout.now body.now))) }
+{
+    let mut cells = Vec::with_capacity(alloc, columns as usize)?;
+    for which in 0..columns {
+        cells.push(value(alloc, arena, field(body, layout, which))?)?;
+    }
+    Ok(Row::of(cells))
+}
+
+/// Whether this value is stored.
+pub(crate) fn is_stored(arena: &Arena, stored: FieldRef<'_>, value: ValueRef<'_>) -> bool
+    requires { IsKept arena.now (seen stored) }
+    ensures { IsTrue result ↔ (value_of arena.now (seen stored.entry) ≡ owned value.entry) }
+{
+    match stored {
+        FieldRef::Null => value.is_null(),
+        FieldRef::Bool(b) => is_bool(value, b),
+        FieldRef::Int(n) => is_int(value, n),
+        FieldRef::Short(text) => is_text(value, text),
+        FieldRef::Long(len, front, place) => match value {
+            ValueRef::Text(text) => is_long(arena, text, len, front, place),
+            _ => false,
+        },
+        FieldRef::Raw(_) => value.is_null(),
+    }
+}
+
+/// Whether a value is this bool.
+fn is_bool(value: ValueRef<'_>, wanted: bool) -> bool
+    ensures { IsTrue result ↔ (values.Bool wanted ≡ owned value.entry) }
+{
+    match value {
+        ValueRef::Bool(b) => b == wanted,
+        _ => false,
+    }
+}
+
+/// Whether a value is this int.
+fn is_int(value: ValueRef<'_>, wanted: i64) -> bool
+    ensures { IsTrue result ↔ (values.Int wanted ≡ owned value.entry) }
+{
+    match value {
+        ValueRef::Int(n) => n == wanted,
+        _ => false,
+    }
+}
+
+/// Whether a value is this text.
+fn is_text(value: ValueRef<'_>, wanted: &[u8]) -> bool
+    ensures { IsTrue result ↔ (values.Text wanted.now ≡ owned value.entry) }
+{
+    match value {
+        ValueRef::Text(text) => text == wanted,
+        _ => false,
+    }
+}
+
+/// Whether the text of so many bytes at this place is this one. The length and the first 4 bytes are compared first.
+fn is_long(arena: &Arena, text: &[u8], len: u32, front: &[u8], place: Place) -> bool
+    requires { StandsAt arena.now len front.now place }
+    ensures { IsTrue result ↔ (take len (bytes_at arena.now place) ≡ text.now) }
+{
+    if text.len() != len as usize {
+        return false;
+    }
+    if &text[..4] != front {
+        return false;
+    }
+    arena.equals(place, text)
 }

@@ -1,0 +1,10 @@
+pub mod Adding
+pub mod Changes
+pub mod Counting
+pub mod Editing
+pub mod Growing
+pub mod Heading
+pub mod Listing
+pub mod Needing
+pub mod Overwriting
+pub mod Placing

@@ -1,0 +1,4 @@
+pub mod Adding
+pub mod Frame
+pub mod Head
+pub mod Record

@@ -6,7 +6,7 @@ use Rattle.vx_raw.specs.declared.place.Place.{Place}
 use Rattle.vx_arena.specs.Chunks.{Chunks}
 use Rattle.vx_arena.specs.Names.{name_of, place_of, none, live_at}
 use Rattle.vx_arena.specs.Free.{IsIn}
-use Rattle.vx_arena.specs.Text.{ArenaModel, StandsLive, next_at, part_at, IsChain, bytes_in, bytes_from, Reads, IsUnnamed, IsChained, HasText, IsText, blocks_of, TakesText, TakesNothing, GivesText, GivesAll, HasChain, StaysText, KeepsTexts, KeepsOthers, IsNew}
+use Rattle.vx_arena.specs.Text.{ArenaModel, StandsLive, next_at, part_at, IsChain, bytes_in, bytes_from, bytes_at, count_from, count_at, more, Reads, IsUnnamed, IsChained, HasText, IsText, blocks_of, TakesText, TakesNothing, GivesText, GivesAll, HasChain, StaysText, KeepsTexts, KeepsOthers, IsNew}
 use Rattle.vx_arena.proofs.Chaining.{same_next, stands_kept, apart_from, not_gone}
 use Rattle.vx_arena.proofs.Chains.{chain_none, chain_live, SameChain, chain_kept}
 
@@ -29,6 +29,20 @@ bytes_of_chain (suc most) c first (n ∷ rest) chain few =
     bytes_some most c first some
     ∙ (ap (λ (k : ℕ). part_at c k ++ bytes_from most c (next_at c k)) chain.0.is
     ∙ (ap (λ (x : List ℕ). part_at c n ++ x) later ∙ sym (flat_map-cons (part_at c) n rest)))
+
+-- and as many blocks are counted as it has
+pub count_of_chain : (most : ℕ) (c : Chunks) (first : ℕ) (names : List ℕ) → IsChain c first names → length names ≤ most → count_from most c first ≡ length names
+unfolding count_from
+count_of_chain zero c first [] chain few = refl
+count_of_chain (suc most) c first [] chain few = rw (eq-eqb first none chain) refl
+count_of_chain zero c first (n ∷ rest) chain few = absurd (omega arith)
+count_of_chain (suc most) c first (n ∷ rest) chain few =
+    let some : first ≢ none = λ e. chain.0.some (sym chain.0.is ∙ e) in
+    let later : count_from most c (next_at c n) ≡ length rest = count_of_chain most c (next_at c n) rest chain.1 (omega arith) in
+    rw (ne_eqb first none some) (ap (λ (k : ℕ). suc (count_from most c (next_at c k))) chain.0.is ∙ ap suc later)
+
+pub text_count : (c : Chunks) (name : ℕ) (h : HasText c name) → count_from 33 c name ≡ length h.names
+text_count c name h = count_of_chain 33 c name h.names h.chain h.few
 
 pub text_bytes : (c : Chunks) (name : ℕ) (h : HasText c name) → bytes_from 33 c name ≡ bytes_in c h.names
 text_bytes c name h = bytes_of_chain 33 c name h.names h.chain h.few
@@ -67,12 +81,21 @@ stored_reads a d first text p most is t =
     ap (λ (n : ℕ). take (length text) (bytes_from 33 d.chunks n)) (name_back first p is)
     ∙ (ap (take (length text)) (bytes_of_chain 33 d.chunks first t.names t.chain (omega (arith, count, most))) ∙ t.reads)
 
+pub stored_count : (a d : ArenaModel) (first : ℕ) (text : List ℕ) (p : Place) → length text ≤ 65535 → p ≡ place_of first → TakesText a d first text → count_at d p ≡ blocks_of (length text)
+stored_count a d first text p most is t =
+    let count : length t.names ≡ blocks_of (length text) = t.blocks in
+    ap (count_from 33 d.chunks) (name_back first p is) ∙ (count_of_chain 33 d.chunks first t.names t.chain (omega (arith, count, most)) ∙ count)
+
 -- a text whose blocks are as they were
 kept_text : (a d : ArenaModel) (p : Place) (i : IsText a p) → ((n : ℕ) → IsIn i.text.names n → live_at d.chunks n ≡ live_at a.chunks n) → IsUnnamed d.chunks (name_of p) → StaysText a d p
 kept_text a d p i same first =
     let s : SameChain a.chunks d.chunks (name_of p) i.text.names = chain_kept a.chunks d.chunks (name_of p) i.text.names i.text.chain same in
     let h : HasText d.chunks (name_of p) = record { names = i.text.names; chain = s.chain; few = i.text.few; first = first; some = i.text.some } in
-    (record { text = h; near = i.near }, text_bytes d.chunks (name_of p) h ∙ (s.bytes ∙ sym (text_bytes a.chunks (name_of p) i.text)))
+    record {
+      there = record { text = h; near = i.near };
+      bytes = text_bytes d.chunks (name_of p) h ∙ (s.bytes ∙ sym (text_bytes a.chunks (name_of p) i.text));
+      count = text_count d.chunks (name_of p) h ∙ sym (text_count a.chunks (name_of p) i.text);
+    }
 
 -- links of a chain stay in it
 chain_next : (c : Chunks) (first : ℕ) (names : List ℕ) → IsChain c first names → (k : ℕ) → IsIn names k → (next_at c k ≡ none) ⊎ IsIn names (next_at c k)
@@ -186,6 +209,17 @@ gives_keeps a d gone chained g gives p i ne =
       | inl there ↦ absurd (not_gone d.chunks n stands (t.gone n there))
       | inr away ↦ i.text.first n (stands_kept d.chunks a.chunks n (sym (t.others n away)) stands) (sym (same_next a.chunks d.chunks n (t.others n away)) ∙ to)
     ])
+
+-- as many blocks are given as it has
+pub gives_count : (a d : ArenaModel) (gone : Place) → IsText a gone → GivesAll a d (name_of gone) → d.given ≡ more a.given (count_at a gone)
+gives_count a d gone g gives = (gives g.text.names g.text.chain).given ∙ ap (more a.given) (sym (text_count a.chunks (name_of gone) g.text))
+
+-- what an owner of texts rests on: what is read at a place stays, and with a text's length it is that text alone
+pub reads_kept : (a d : ArenaModel) (p : Place) (text : List ℕ) → StaysText a d p → Reads a p text → Reads d p text
+reads_kept a d p text s reads = ap (take (length text)) s.bytes ∙ reads
+
+pub reads_one : (a : ArenaModel) (p : Place) (text other : List ℕ) → length text ≡ length other → Reads a p text → Reads a p other → text ≡ other
+reads_one a p text other same one two = sym one ∙ (ap (λ (k : ℕ). take k (bytes_at a p)) same ∙ two)
 
 pub has_chain : (c : Chunks) (name : ℕ) → HasText c name → HasChain c name
 has_chain c name h = record { names = h.names; chain = h.chain; unnamed = h.first }

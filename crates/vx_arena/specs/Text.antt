@@ -72,6 +72,14 @@ bytes_from (suc most) chunks name = if name == none then [] else part_at chunks 
 abbrev pub bytes_at : ArenaModel → Place → List ℕ
 bytes_at arena place = bytes_from 33 arena.chunks (name_of place)
 
+-- how many blocks the chain has that begins at a place
+unfoldable pub count_from : ℕ → Chunks → ℕ → ℕ
+count_from zero chunks name = 0
+count_from (suc most) chunks name = if name == none then 0 else suc (count_from most chunks (next_at chunks name))
+
+abbrev pub count_at : ArenaModel → Place → ℕ
+count_at arena place = count_from 33 arena.chunks (name_of place)
+
 -- the text at a place is this one
 abbrev pub Reads : ArenaModel → Place → List ℕ → Type 0
 Reads arena place text = take (length text) (bytes_at arena place) ≡ text
@@ -169,14 +177,17 @@ pub record HasChain (chunks : Chunks) (first : ℕ) : Type 0 where
 abbrev pub GivesAll : ArenaModel → ArenaModel → ℕ → Type 0
 GivesAll before after first = (names : List ℕ) → IsChain before.chunks first names → GivesText before after names
 
--- each text is where it was, with the bytes that it had
-abbrev pub StaysText : ArenaModel → ArenaModel → Place → Type 0
-StaysText before after place = IsText after place × (bytes_at after place ≡ bytes_at before place)
+-- a text is where it was, with the bytes that it had in as many blocks
+pub record StaysText (before after : ArenaModel) (place : Place) : Type 0 where
+  pub there : IsText after place
+  pub bytes : bytes_at after place ≡ bytes_at before place
+  pub count : count_at after place ≡ count_at before place
 
+-- each text stays
 abbrev pub KeepsTexts : ArenaModel → ArenaModel → Type 0
 KeepsTexts before after = (place : Place) → IsText before place → StaysText before after place
 
--- and so is each but the one at this place
+-- each text stays but the one at this place
 abbrev pub KeepsOthers : ArenaModel → ArenaModel → Place → Type 0
 KeepsOthers before after gone = (place : Place) → IsText before place → (name_of place ≡ name_of gone → ⊥) → StaysText before after place
 

@@ -1,7 +1,7 @@
 ghost use Rattle.std.specs.Prelude.{◌≡◌, ◌≢◌, ◌+◌, ◌*◌, ◌^◌, ◌<◌, ◌≤◌, ◌↔◌, [], ◌++◌, IfOk, IfErr, OnErr, IsTrue, length, take, drop};
 ghost use Rattle.vx_arena.specs.Chunks.{held_by};
 ghost use Rattle.vx_arena.specs.Names.{name_of, none, lives};
-ghost use Rattle.vx_arena.specs.Text.{bytes_at, bytes_from, more, next_at, part_at, HasText, IsNew, IsText, KeepsOthers, KeepsTexts, Reads, StandsLive, IsUnnamed, CanFollow, AddsPart, GivesPart, HasChain, GivesAll, TakesText, TakesNothing};
+ghost use Rattle.vx_arena.specs.Text.{blocks_of, bytes_at, bytes_from, count_at, more, next_at, part_at, HasText, IsNew, IsText, KeepsOthers, KeepsTexts, Reads, StandsLive, IsUnnamed, CanFollow, AddsPart, GivesPart, HasChain, GivesAll, TakesText, TakesNothing};
 
 use crate::free::FreeBlocks;
 use crate::links::{NONE, name, place};
@@ -78,6 +78,7 @@ impl Arena {
         ensures fresh { IfOk result (λ place. IsNew self.old place) }
         ensures there { IfOk result (λ place. IsText self.new place) }
         ensures reads { IfOk result (λ place. Reads self.new place text.now) }
+        ensures count { IfOk result (λ place. count_at self.new place ≡ blocks_of (length text.now)) }
         ensures err { OnErr result (TakesNothing self.old self.new text.now) }
         ensures keeps { KeepsTexts self.old self.new }
     {
@@ -89,6 +90,7 @@ impl Arena {
     pub fn give_text(&mut self, at: Place)
         requires { IsText self.old at }
         ensures gives { GivesAll self.old self.new (name_of at) }
+        ensures given { self.new.given ≡ more self.old.given (count_at self.old at) }
         ensures keeps { KeepsOthers self.old self.new at }
     {
         let _ = &self.given;

@@ -1,0 +1,9 @@
+pub mod BodyLemmas
+pub mod Filling
+pub mod Holding
+pub mod LayoutLemmas
+pub mod NullLemmas
+pub mod ResultLemmas
+pub mod SlotLemmas
+pub mod Taking
+pub mod WriteLemmas

@@ -1,0 +1,7 @@
+pub mod Body
+pub mod Layout
+pub mod Need
+pub mod Nulls
+pub mod Places
+pub mod Slot
+pub mod Texts

@@ -9,6 +9,7 @@ mod body;
 mod field;
 mod fields;
 mod layout;
+mod need;
 mod nulls;
 mod slot;
 mod texts;

@@ -1,8 +1,7 @@
 -- A put of all rows of a batch takes at most the batch's need of chunks.
-use Rattle.std.proofs.Common.{inl, inr, ◌≡◌, ◌≢◌, ℕ, zero, suc, ◌+◌, ◌-◌, ◌*◌, ◌/◌, ◌^◌, ◌<◌, ◌≤◌, Bool, true, false, cond, eqb, List, [], ◌∷◌, ◌++◌, length, get_or, map, All, refl, sym, ap, ◌∙◌, subst, arith}
+use Rattle.std.proofs.Common.{inl, inr, ◌≡◌, ℕ, ◌+◌, ◌-◌, ◌*◌, ◌/◌, ◌≤◌, Bool, cond, List, [], ◌∷◌, length, map, All, refl, sym, ap, ◌∙◌, subst, arith}
 use Rattle.std.specs.List.{sum_by, range_with_len}
-use Rattle.std.specs.Int.{div_ceil}
-use Rattle.std.proofs.lemmas.Bool.{cases_eq, eq-eqb, ne_eqb}
+use Rattle.std.proofs.lemmas.Bool.{cases_eq, ne_eqb}
 use Rattle.std.proofs.lemmas.List.Elements.{All-head, All-tail}
 use Rattle.std.proofs.lemmas.List.FromFn.{length-range_with_len, fill_by_all}
 use Rattle.std.proofs.lemmas.List.Sums.{sum_by-cons}
@@ -10,7 +9,7 @@ use Rattle.std.proofs.lemmas.Nat.{le-div}
 use Rattle.vx_arena.specs.Chunks.{Chunks, held_by}
 use Rattle.vx_arena.specs.Part.{PaysMore, Pays, none_made}
 use Rattle.vx_arena.proofs.Paying.{pays_kept, pays_then, pays_cost}
-use Rattle.vx_records.specs.Record.{Record, RecordsModel, AddsRecord, chunk_bytes}
+use Rattle.vx_records.specs.Record.{chunk_bytes}
 use Rattle.vx_records.specs.Adding.{bytes_of}
 use Rattle.vx_records.proofs.Needing.{chunks_more}
 use Rattle.vx_value.specs.declared.value.Value.{Value}
@@ -19,9 +18,9 @@ use Rattle.vx_value.specs.Row.{value_at}
 use Rattle.vx_vector.specs.Column.{Column}
 use Rattle.vx_vector.specs.Batch.{row_of}
 use Rattle.vx_rows.specs.declared.fields.Extra.{Extra}
-use Rattle.vx_rows.specs.Layout.{body_len, row_len, rows_a_chunk}
+use Rattle.vx_rows.specs.Layout.{body_len, row_len}
 use Rattle.vx_rows.specs.Texts.{text_cost}
-use Rattle.vx_rows.specs.Need.{row_need, column_cost, texts_cost, text_need, need_of, Held, held_bytes, PutsRow, PutsRows}
+use Rattle.vx_rows.specs.Need.{row_need, column_cost, texts_cost, text_need, need_of, Held, held_bytes, PutsRows}
 
 -- ---- sums
 

@@ -1,6 +1,6 @@
 -- How many bytes of chunks a put of a batch's rows takes at most: those that so many rows need alone, and for texts
 -- one chunk for each 2,040 bytes of blocks and one more.
-use Rattle.std.specs.Prelude.{◌≡◌, ℕ, ◌+◌, ◌*◌, ◌/◌, ◌==◌, if◌then◌else◌, List, [], ◌∷◌, length}
+use Rattle.std.specs.Prelude.{◌≡◌, ℕ, ◌+◌, ◌*◌, ◌/◌, ◌==◌, if◌then◌else◌, List, [], ◌∷◌}
 use Rattle.std.specs.List.{sum_by}
 use Rattle.std.specs.Int.{div_ceil}
 use Rattle.vx_arena.specs.Chunks.{Chunks, held_by}

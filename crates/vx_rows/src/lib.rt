@@ -10,6 +10,8 @@ mod field;
 mod fields;
 mod layout;
 mod need;
+#[cfg(test)]
+mod need_tests;
 mod nulls;
 mod slot;
 mod texts;

@@ -14,6 +14,7 @@ const SHORT: usize = 12;
 
 /// How many bytes of a text a full block holds, and how many bytes the block has.
 const PART: usize = 2040;
+
 const BLOCK: u64 = 2056;
 
 /// How many bytes of chunks a put of all rows of a batch takes at most.
@@ -90,7 +91,7 @@ fn value_cost(value: ValueRef<'_>) -> u64
 
 /// The bytes of the blocks of a text of so many bytes: the full ones and the last.
 #[inline]
-fn length_cost(len: usize) -> u64
+pub(crate) fn length_cost(len: usize) -> u64
     requires { len ≤ 65535 }
     ensures is { result ≡ (if nat_le len 12 then 0 else cost_of len) }
     ensures most { result ≤ 2 ^ 17 }

@@ -1,4 +1,4 @@
-use Rattle.std.proofs.Common.{◌≤◌, length, ap, ◌≡◌, subst, sym, List}
+use Rattle.std.proofs.Common.{◌≤◌, length, subst, sym, List}
 use Rattle.vx_vector.specs.Column.{Column}
 use Rattle.vx_rows.proofs.NeedLemmas.{few_columns}
 use Rattle.vx_rows.proofs.need.need_of.Goals as goal

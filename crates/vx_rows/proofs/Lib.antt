@@ -2,6 +2,8 @@ pub mod BodyLemmas
 pub mod Filling
 pub mod Holding
 pub mod LayoutLemmas
+pub mod NeedLaw
+pub mod NeedLemmas
 pub mod NullLemmas
 pub mod ResultLemmas
 pub mod SlotLemmas

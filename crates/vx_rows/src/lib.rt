@@ -9,6 +9,9 @@ mod body;
 mod field;
 mod fields;
 mod layout;
+mod need;
+#[cfg(test)]
+mod need_tests;
 mod nulls;
 mod slot;
 mod texts;

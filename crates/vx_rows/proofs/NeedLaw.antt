@@ -70,17 +70,18 @@ cost_by_rows (c ∷ columns) rows even =
 -- ---- texts
 
 -- chunks made for texts of this cost
-pub texts_within : (before after : Chunks) (cost : ℕ) → Pays before after cost → (cost ≡ 0 → held_by after ≤ held_by before) → held_by after ≤ held_by before + text_need cost
-texts_within before after cost pays none = elim (cases_eq cost 0) as (λ _. held_by after ≤ held_by before + text_need cost) [
-  | inl e ↦ let same : held_by after ≤ held_by before = none e in omega (arith, same)
-  | inr ne ↦
-      let more : PaysMore before after 0 0 cost = pays 0 0 (none_made refl) in
-      let held : held_by after ≡ held_by before + 4096 * more.chunks = more.held in
-      let few : 2041 * (0 + more.chunks) ≤ 0 + cost + 2041 = more.few in
-      let parts : more.chunks - 1 ≤ cost / 2040 = le-div (more.chunks - 1) cost 2040 (omega arith) (omega (arith, few)) in
-      let need : text_need cost ≡ 4096 * (cost / 2040 + 1) = ap (λ (b : Bool). cond b 0 (4096 * (cost / 2040 + 1))) (ne_eqb cost 0 ne) in
-      rw need (omega (arith, held, parts))
-]
+pub texts_within : (before after : Chunks) (cost : ℕ) → Pays before after cost → held_by after ≤ held_by before + text_need cost
+texts_within before after cost pays =
+    let more : PaysMore before after 0 0 cost = pays 0 0 (none_made refl) in
+    let held : held_by after ≡ held_by before + 4096 * more.chunks = more.held in
+    elim (cases_eq cost 0) as (λ _. held_by after ≤ held_by before + text_need cost) [
+      | inl e ↦ let none : more.chunks ≡ 0 = more.none e in omega (arith, held, none)
+      | inr ne ↦
+          let few : 2041 * (0 + more.chunks) ≤ 0 + cost + 2041 = more.few in
+          let parts : more.chunks - 1 ≤ cost / 2040 = le-div (more.chunks - 1) cost 2040 (omega arith) (omega (arith, few)) in
+          let need : text_need cost ≡ 4096 * (cost / 2040 + 1) = ap (λ (b : Bool). cond b 0 (4096 * (cost / 2040 + 1))) (ne_eqb cost 0 ne) in
+          rw need (omega (arith, held, parts))
+    ]
 
 -- ---- rows one after another
 
@@ -104,23 +105,23 @@ puts_len columns (at ∷ rest) before after puts = puts_len columns rest puts.0 
 -- ---- the need
 
 -- at most so many numbers more, and blocks of this cost, take at most the need
-pub need_covers : (fields : List Extra) (columns : List Column) (rows : ℕ) (before after : Held) → row_len fields ≤ 4096 → before.records.len ≡ body_len fields → after.records.len ≡ before.records.len → length after.records.records ≤ length before.records.records + rows → Pays before.chunks after.chunks (texts_cost columns) → (texts_cost columns ≡ 0 → held_by after.chunks ≤ held_by before.chunks) → held_bytes after ≤ held_bytes before + need_of fields columns rows
-need_covers fields columns rows before after most len kept few pays none =
+pub need_covers : (fields : List Extra) (columns : List Column) (rows : ℕ) (before after : Held) → row_len fields ≤ 4096 → before.records.len ≡ body_len fields → after.records.len ≡ before.records.len → length after.records.records ≤ length before.records.records + rows → Pays before.chunks after.chunks (texts_cost columns) → held_bytes after ≤ held_bytes before + need_of fields columns rows
+need_covers fields columns rows before after most len kept few pays =
     let count : ℕ = length after.records.records in
     let short : before.records.len + 8 ≤ 4096 = omega (arith, most, len) in
     let more : chunk_bytes before.records.len (length after.records.records) ≤ bytes_of before.records + chunk_bytes before.records.len rows = chunks_more before.records.len (length before.records.records) rows (length after.records.records) short few in
     let now : bytes_of after.records ≡ chunk_bytes before.records.len (length after.records.records) = ap (λ (n : ℕ). chunk_bytes n (length after.records.records)) kept in
     let alone : chunk_bytes before.records.len rows ≡ row_need fields rows = ap (λ (n : ℕ). chunk_bytes n rows) len in
-    let texts : held_by after.chunks ≤ held_by before.chunks + text_need (texts_cost columns) = texts_within before.chunks after.chunks (texts_cost columns) pays none in
+    let texts : held_by after.chunks ≤ held_by before.chunks + text_need (texts_cost columns) = texts_within before.chunks after.chunks (texts_cost columns) pays in
     four (bytes_of after.records) (bytes_of before.records) (row_need fields rows) (held_by after.chunks) (held_by before.chunks) (text_need (texts_cost columns)) (omega (arith, more, now, alone)) texts
   where
     four : (a b c d e f : ℕ) → a ≤ b + c → d ≤ e + f → a + d ≤ b + e + (c + f)
     four a b c d e f one two = omega (arith, one, two)
 
 -- a put of all rows of a batch takes at most its need
-pub put_within : (fields : List Extra) (columns : List Column) (rows : ℕ) (before after : Held) → row_len fields ≤ 4096 → before.records.len ≡ body_len fields → All (λ c. length c.values ≡ rows) columns → PutsRows columns (range_with_len 0 rows) before after → (texts_cost columns ≡ 0 → held_by after.chunks ≤ held_by before.chunks) → held_bytes after ≤ held_bytes before + need_of fields columns rows
-put_within fields columns rows before after most len even puts none =
+pub put_within : (fields : List Extra) (columns : List Column) (rows : ℕ) (before after : Held) → row_len fields ≤ 4096 → before.records.len ≡ body_len fields → All (λ c. length c.values ≡ rows) columns → PutsRows columns (range_with_len 0 rows) before after → held_bytes after ≤ held_bytes before + need_of fields columns rows
+put_within fields columns rows before after most len even puts =
     let many : length (range_with_len 0 rows) ≡ rows = length-range_with_len 0 rows in
     let few : length after.records.records ≤ length before.records.records + length (range_with_len 0 rows) = puts_few columns (range_with_len 0 rows) before after puts in
     need_covers fields columns rows before after most len (puts_len columns (range_with_len 0 rows) before after puts) (omega (arith, many, few))
-    (pays_cost before.chunks after.chunks (sum_by (row_cost columns) (range_with_len 0 rows)) (texts_cost columns) (cost_by_rows columns rows even) (puts_pay columns (range_with_len 0 rows) before after puts)) none
+    (pays_cost before.chunks after.chunks (sum_by (row_cost columns) (range_with_len 0 rows)) (texts_cost columns) (cost_by_rows columns rows even) (puts_pay columns (range_with_len 0 rows) before after puts))

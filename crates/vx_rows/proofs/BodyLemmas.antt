@@ -1,9 +1,10 @@
 -- What a body stores after a field was put into it.
-use Rattle.std.proofs.Common.{◌≡◌, ℕ, zero, suc, inl, inr, ◌+◌, ◌-◌, ◌/◌, ◌%◌, ◌<◌, ◌≤◌, ◌⊎◌, Bool, true, false, cond, eqb, List, [], ◌∷◌, length, take, get_or, set, refl, sym, ap, ◌∙◌, arith}
+use Rattle.std.proofs.Common.{◌≡◌, ℕ, zero, suc, inl, inr, ◌+◌, ◌-◌, ◌/◌, ◌%◌, ◌<◌, ◌≤◌, ◌⊎◌, replicate, Bool, true, false, cond, eqb, List, [], ◌∷◌, ◌++◌, length, take, drop, get_or, set, refl, sym, ap, ◌∙◌, arith}
 use Rattle.std.specs.List.{sum_by}
 use Rattle.std.specs.Int.{bit_at}
 use Rattle.std.proofs.lemmas.Bool.{cases_order}
-use Rattle.std.proofs.lemmas.List.{ext_get_or, length-set, get_or-set_same, get_or-set_other}
+use Rattle.std.proofs.lemmas.List.{ext_get_or, take_all, take-replicate, drop-replicate, length-replicate, get_or-replicate, get_or_append_left, get_or-map, length-map, length-set, get_or-set_same, get_or-set_other}
+use Rattle.std.proofs.Math.Seq.{drop-append-add}
 use Rattle.std.proofs.lemmas.List.FromFn.{get_or-map-range_with_len, length-map-range_with_len}
 use Rattle.std.proofs.lemmas.List.Sums.{sum_by_more, sum_by_more_le}
 use Rattle.vx_raw.specs.Region.{written}
@@ -13,6 +14,7 @@ use Rattle.vx_rows.specs.declared.fields.Extra.TheVariants as extra
 use Rattle.vx_rows.specs.Layout.{body_len, field_at, field_len, null_len, place_of}
 use Rattle.vx_rows.specs.Nulls.{is_null_in}
 use Rattle.vx_rows.specs.Body.{Stored, null, raw, all_stored, bytes_of, stored_in, read_field, read_slot, spelled, is_null, FitsField, Puts}
+use Rattle.vx_rows.specs.Texts.{empty_of, zero_of}
 use Rattle.vx_rows.proofs.WriteLemmas.{written-length, byte_before, byte_behind, byte_there, there, part_before, part_behind}
 use Rattle.vx_rows.proofs.SlotLemmas.{read_back, many_spelled, few_spelled}
 
@@ -190,3 +192,62 @@ room_for_stored fields body now which byte s less whole fits is =
     let near : which / 8 < null_len (length fields) = null_inside fields which less in
     let many : length now ≡ length body = ap length is ∙ written-length body (which / 8) (byte ∷ []) (omega (arith, near, whole)) in
     omega (arith, many, whole, few_spelled (field_at fields which) s fits, field_inside fields which less)
+
+-- ---- a body that stores nothing
+
+bits_set : (k : ℕ) → k < 8 → eqb (bit_at 255 k) 1 ≡ true
+bits_set zero less = refl
+bits_set (suc zero) less = refl
+bits_set (suc (suc zero)) less = refl
+bits_set (suc (suc (suc zero))) less = refl
+bits_set (suc (suc (suc (suc zero)))) less = refl
+bits_set (suc (suc (suc (suc (suc zero))))) less = refl
+bits_set (suc (suc (suc (suc (suc (suc zero)))))) less = refl
+bits_set (suc (suc (suc (suc (suc (suc (suc zero))))))) less = refl
+bits_set (suc (suc (suc (suc (suc (suc (suc (suc k)))))))) less = absurd (omega (arith, less))
+
+module _ (fields : List Extra) (rest : ℕ) (whole : null_len (length fields) + rest ≡ body_len fields) where
+  blank : List ℕ
+  blank = replicate (null_len (length fields)) 255 ++ replicate rest 0
+
+  front_long : length {A = ℕ} (replicate (null_len (length fields)) 255) ≡ null_len (length fields)
+  front_long = length-replicate {A = ℕ} (null_len (length fields)) 255
+
+  blank_null : (i : ℕ) → i < length fields → is_null_in blank i ≡ true
+  unfolding is_null_in blank
+  blank_null i less =
+      let near : i / 8 < null_len (length fields) = null_inside fields i less in
+      let byte : get_or (replicate (null_len (length fields)) 255 ++ replicate rest 0) (i / 8) 0 ≡ 255 =
+      get_or_append_left (replicate (null_len (length fields)) 255) (replicate rest 0) 0 (i / 8) (omega (arith, near, front_long)) ∙ get_or-replicate (null_len (length fields)) (i / 8) 255 0 near in
+      ap (λ (b : ℕ). eqb (bit_at b (i % 8)) 1) byte ∙ bits_set (i % 8) (omega arith)
+
+  blank_bytes : (i : ℕ) → i < length fields → bytes_of fields blank i ≡ replicate (field_len (field_at fields i)) 0
+  unfolding blank
+  blank_bytes i less =
+      let n : ℕ = sum_by field_len (take i fields) in
+      let start : drop (place_of fields i) (replicate (null_len (length fields)) 255 ++ replicate rest 0) ≡ drop (sum_by field_len (take i fields)) (replicate rest 0) =
+      ap (λ (k : ℕ). drop (k + sum_by field_len (take i fields)) (replicate (null_len (length fields)) 255 ++ replicate rest 0)) (sym front_long) ∙ drop-append-add (replicate (null_len (length fields)) 255) (replicate rest 0) (sum_by field_len (take i fields)) in
+      let zeros : drop (sum_by field_len (take i fields)) (replicate rest 0) ≡ replicate (rest - sum_by field_len (take i fields)) 0 = drop-replicate (sum_by field_len (take i fields)) rest 0 in
+      ap (take (field_len (field_at fields i))) (start ∙ zeros) ∙ take-replicate (field_len (field_at fields i)) (rest - sum_by field_len (take i fields)) 0 (omega (arith, field_inside fields i less, whole))
+
+  blank_field : (i : ℕ) (e : Extra) → i < length fields → field_at fields i ≡ e → stored_in fields blank i ≡ zero_of e
+  blank_field i (extra.Bytes count) less is = sym (stored_raw fields blank i count (bytes_of fields blank i) is refl) ∙ ap raw (blank_bytes i less ∙ ap (λ (e : Extra). replicate (field_len e) 0) is)
+  blank_field i (extra.Slot k) less is = sym (stored_null fields blank i k is (blank_null i less))
+
+  blank_stored : all_stored fields blank ≡ empty_of fields
+  blank_stored =
+      ext_get_or null (all_stored fields blank) (empty_of fields) (stored_many fields blank ∙ sym (length-map fields zero_of)) (λ i near.
+      let less : i < length fields = omega (arith, near, stored_many fields blank) in
+      stored_at fields blank i less ∙ (blank_field i (field_at fields i) less refl ∙ sym (get_or-map zero_of fields i (extra.Bytes 0) null less)))
+
+  pub empty_stored : (body : List ℕ) → body ≡ replicate (null_len (length fields)) 255 ++ replicate rest 0 → all_stored fields body ≡ empty_of fields
+  unfolding blank
+  empty_stored body is = ap (all_stored fields) is ∙ blank_stored
+
+-- a body of null bits is made longer by zeros
+pub resized_stored : (fields : List Extra) (body front : List ℕ) (bytes len count : ℕ) → bytes ≡ body_len fields → len ≡ null_len (length fields) → count ≡ len → front ≡ replicate len 255 → body ≡ take bytes front ++ replicate (bytes - count) 0 → null_len (length fields) ≤ body_len fields → all_stored fields body ≡ empty_of fields
+resized_stored fields body front bytes len count bytes_are len_is count_is front_is is near =
+    let many : length front ≡ len = ap length front_is ∙ length-replicate {A = ℕ} len 255 in
+    let all : take bytes front ≡ front = take_all bytes front (omega (arith, bytes_are, len_is, many, near)) in
+    let front_at : front ≡ replicate (null_len (length fields)) 255 = front_is ∙ ap (λ (n : ℕ). replicate n 255) len_is in
+    empty_stored fields (bytes - count) (omega (arith, bytes_are, len_is, count_is, near)) body (is ∙ ap (λ (l : List ℕ). l ++ replicate (bytes - count) 0) (all ∙ front_at))

@@ -1,4 +1,5 @@
 pub mod BodyLemmas
+pub mod ContainerLemmas
 pub mod Filling
 pub mod Holding
 pub mod LayoutLemmas
@@ -6,6 +7,7 @@ pub mod NeedLaw
 pub mod NeedLemmas
 pub mod NullLemmas
 pub mod ResultLemmas
+pub mod RowLemmas
 pub mod SlotLemmas
 pub mod Taking
 pub mod WriteLemmas

@@ -141,6 +141,17 @@ keeps_freed a m n d xs x y one two three = record {
   pays = pays_cost a.chunks d.chunks (x + y + 0) (x + y) (omega arith) (pays_then a.chunks n.chunks d.chunks (x + y) 0 (pays_then a.chunks m.chunks n.chunks x y one.pays two.pays) three.pays);
 }
 
+-- what was added is freed
+pub added_freed : (a m d : ArenaModel) (xs : List Stored) (x : ℕ) → Adds a m xs x → Frees m d xs → Keeps a d x
+added_freed a m d xs x one two = record {
+  holds = λ others h. two.holds others (one.holds others h);
+  values = λ others h. same_then a m d others (one.values others h) (two.values others (one.holds others h));
+  blocks = sum_by blocks_in xs;
+  taken = two.taken ∙ one.taken;
+  given = two.given ∙ ap (λ (n : ℕ). more n (sum_by blocks_in xs)) one.given;
+  pays = pays_cost a.chunks d.chunks (x + 0) x (omega arith) (pays_then a.chunks m.chunks d.chunks x 0 one.pays two.pays);
+}
+
 -- ---- one field stored, or freed
 
 pub stores_plain : (a : ArenaModel) (v : Value) (s : Stored) → a.taken < 2 ^ 64 → IsPlain s → IsKept a s → value_of a s ≡ v → CanBeSpelled s → ((k : Kind) → FitsKind k v → IsOf (extra.Slot k) s) → text_cost v ≡ 0 → Stores a a v s

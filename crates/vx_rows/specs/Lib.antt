@@ -1,4 +1,5 @@
 pub mod Body
+pub mod Container
 pub mod Layout
 pub mod Need
 pub mod Nulls

@@ -35,8 +35,13 @@ pub record StandsAt (arena : ArenaModel) (len : ℕ) (front : List ℕ) (place :
   pub blocks : count_at arena place ≡ blocks_of len
   pub least : 12 < len
 
+-- a text that stands in its slot
+pub record IsShort (text : List ℕ) : Type 0 where
+  pub lawful : IsLawfulText text
+  pub few : length text ≤ 12
+
 abbrev pub IsKept : ArenaModel → Stored → Type 0
-IsKept arena (short text) = IsLawfulText text
+IsKept arena (short text) = IsShort text
 IsKept arena (long len front place) = StandsAt arena len front place
 IsKept arena _ = ⊤
 

@@ -1,9 +1,11 @@
-ghost use Rattle.std.specs.Prelude.{◌≡◌, ◌+◌, ◌/◌, ◌%◌, ◌<◌, ◌≤◌, [], ◌∷◌, length, slice_index, slice_set};
+ghost use Rattle.std.specs.Prelude.{◌≡◌, ◌+◌, ◌/◌, ◌%◌, ◌<◌, ◌≤◌, [], ◌∷◌, length, replicate, slice_index, slice_set, IfOk};
+ghost use Rattle.std.specs.Vec.{vec_len};
 ghost use Rattle.vx_raw.specs.Region.{written};
 ghost use Rattle.vx_value.specs.declared.value.Kind.TheVariants as kinds;
 ghost use Rattle.vx_rows.specs.Body.{CanBeSpelled, FitsField, Puts, all_stored, bytes_of, read_slot, seen, spelled, stored_in};
 ghost use Rattle.vx_rows.specs.Layout.{body_len, cell_len, field_at, place_of as place_in};
 ghost use Rattle.vx_rows.specs.Nulls.{SetsBit};
+ghost use Rattle.vx_rows.specs.Texts.{empty_of};
 
 use crate::field::FieldRef;
 use crate::fields::{Extra, field_bytes};
@@ -14,6 +16,7 @@ use crate::slot::{
     short_slot,
 };
 use crate::write::write;
+use std::alloc::{AllocError, Global};
 use vx_value::Kind;
 
 /// The bytes of a field.
@@ -118,4 +121,22 @@ fn write_stored(body: &mut [u8], at: usize, stored: FieldRef<'_>)
         FieldRef::Long(len, front, place) => write(body, at, &long_slot(len, front, place)),
         FieldRef::Raw(bytes) => write(body, at, bytes),
     }
+}
+
+/// A body that stores nothing: all null bits are set, and all other bytes are zero.
+pub(crate) fn empty_body(alloc: Global, layout: &Layout) -> Result<Vec<u8>, AllocError>
+    ensures is { IfOk result (λ body. all_stored layout.now body.items ≡ empty_of layout.now) }
+    ensures len { IfOk result (λ body. length body.items ≡ body_len layout.now) }
+{
+    let mut body = null_bits(alloc, layout.start())?;
+    body.resize(layout.bytes() as usize, 0)?;
+    Ok(body)
+}
+
+/// So many bytes of null bits, all set.
+fn null_bits(alloc: Global, bytes: u32) -> Result<Vec<u8>, AllocError>
+    ensures is { IfOk result (λ bits. bits.items ≡ replicate bytes 255) }
+    ensures len { IfOk result (λ bits. vec_len bits ≡ bytes) }
+{
+    Vec::from_elem(alloc, 255u8, bytes as usize)
 }

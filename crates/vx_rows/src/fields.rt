@@ -88,6 +88,13 @@ impl Fields {
         self.fields.len()
     }
 
+    /// Where the first one begins.
+    pub(crate) fn start(&self) -> u32
+        ensures { result ≡ self.now.start }
+    {
+        self.start
+    }
+
     /// How many bytes of the body stand before this one.
     #[inline]
     pub(crate) fn at(&self, which: u32) -> u32

@@ -1,5 +1,5 @@
 ghost use Rattle.std.specs.Prelude.{◌≡◌, ◌+◌, ◌/◌, ◌<◌, ◌≤◌, length, IfOk};
-ghost use Rattle.vx_rows.specs.Layout.{body_len, field_at, field_len, fields_of, place_of, row_len, rows_a_chunk};
+ghost use Rattle.vx_rows.specs.Layout.{body_len, field_at, field_len, fields_of, null_len, place_of, row_len, rows_a_chunk};
 
 use crate::fields::{Extra, Fields};
 use std::alloc::{AllocError, Global};
@@ -48,6 +48,14 @@ impl Layout {
         ensures { result ≡ place_of self.now which }
     {
         self.placed.at(which)
+    }
+
+    /// How many bytes of the body the null bits have.
+    pub(crate) fn start(&self) -> u32
+        ensures is { result ≡ null_len (length self.now) }
+        ensures inside { result ≤ body_len self.now }
+    {
+        self.placed.start()
     }
 
     /// What this field is.

@@ -6,6 +6,7 @@
 #![tactic(auto)]
 
 mod body;
+mod container;
 mod field;
 mod fields;
 mod layout;
@@ -17,4 +18,5 @@ mod slot;
 mod texts;
 mod write;
 
+pub use container::RowContainer;
 pub use fields::Extra;

@@ -10,7 +10,7 @@ pub returns-then-text-le-SHORT-clause-ok : goal.returns-then-text-le-SHORT-claus
 returns-then-text-le-SHORT-clause-ok c =
     let fits : c.args.arena.now.taken < 2 ^ 64 = omega (arith, c.taken-taken.ensures.taken, c.taken-taken.type_inv) in
     let test : nat_le (length c.args.text.now) 12 ≡ true = grind arith in
-    stores_plain c.args.arena.now (values.Text c.args.text.now) (short c.args.text.now) fits tt c.requires refl c.if-text-le-SHORT.true (λ k fits. sym fits) (rw test refl)
+    stores_plain c.args.arena.now (values.Text c.args.text.now) (short c.args.text.now) fits tt (record { lawful = c.requires; few = c.if-text-le-SHORT.true }) refl c.if-text-le-SHORT.true (λ k fits. sym fits) (rw test refl)
 
 pub returns-in_err-place-clause-err : goal.returns-in_err-place-clause-err
 returns-in_err-place-clause-err c = on_err c.from_residual.result (keeps_failed c.args.arena.now c.take_text.new.self c.args.text.now (omega arith) c.in_err-place.ensures.err c.take_text.ensures.keeps)

@@ -1,5 +1,5 @@
 -- How many chunks are made, by the bytes of the blocks that are taken.
-use Rattle.std.proofs.Common.{inl, inr, ◌≡◌, ◌⊎◌, ℕ, ◌+◌, ◌-◌, ◌*◌, ◌<◌, ◌≤◌, Some, sym, ap, ◌∙◌, subst, arith}
+use Rattle.std.proofs.Common.{inl, inr, ◌≡◌, ◌⊎◌, ℕ, ◌+◌, ◌-◌, ◌*◌, ◌<◌, ◌≤◌, Some, refl, sym, ap, ◌∙◌, subst, arith}
 use Rattle.std.proofs.lemmas.Bool.{cases_eq}
 use Rattle.vx_arena.specs.Chunks.{Chunks, held_by}
 use Rattle.vx_arena.specs.Names.{len_at}
@@ -13,8 +13,8 @@ few_chunks chunks made spent (none_made e) = omega (arith, e)
 few_chunks chunks made spent (spare_left n l s most le) = omega (arith, le, most)
 few_chunks chunks made spent (all_paid le) = omega (arith, le)
 
-pub pays_so : (a d : Chunks) (made spent cost chunks : ℕ) → held_by d ≡ held_by a + 4096 * chunks → Paid d (made + chunks) (spent + cost) → PaysMore a d made spent cost
-pays_so a d made spent cost chunks held paid = record { chunks = chunks; held = held; paid = paid; few = few_chunks d (made + chunks) (spent + cost) paid }
+pub pays_so : (a d : Chunks) (made spent cost chunks : ℕ) → held_by d ≡ held_by a + 4096 * chunks → (cost ≡ 0 → chunks ≡ 0) → Paid d (made + chunks) (spent + cost) → PaysMore a d made spent cost
+pays_so a d made spent cost chunks held none paid = record { chunks = chunks; held = held; none = none; paid = paid; few = few_chunks d (made + chunks) (spent + cost) paid }
 
 -- no chunk was made, and each free block is left
 paid_kept : (a d : Chunks) (made spent : ℕ) → ((n l : ℕ) → IsSpare a n l → IsSpare d n l) → Paid a made spent → Paid d (made + 0) (spent + 0)
@@ -23,7 +23,16 @@ paid_kept a d made spent kept (spare_left n l s most le) = spare_left n l (kept 
 paid_kept a d made spent kept (all_paid le) = all_paid (omega (arith, le))
 
 pub pays_kept : (a d : Chunks) → held_by d ≡ held_by a → ((n l : ℕ) → IsSpare a n l → IsSpare d n l) → Pays a d 0
-pays_kept a d held kept made spent paid = pays_so a d made spent 0 0 (omega (arith, held)) (paid_kept a d made spent kept paid)
+pays_kept a d held kept made spent paid = pays_so a d made spent 0 0 (omega (arith, held)) (λ e. e) (paid_kept a d made spent kept paid)
+
+left_none : (x y : ℕ) → x + y ≡ 0 → x ≡ 0
+left_none x y e = omega (arith, e)
+
+right_none : (x y : ℕ) → x + y ≡ 0 → y ≡ 0
+right_none x y e = omega (arith, e)
+
+no_sum : (m n : ℕ) → m ≡ 0 → n ≡ 0 → m + n ≡ 0
+no_sum m n one two = omega (arith, one, two)
 
 pub pays_then : (a m d : Chunks) (x y : ℕ) → Pays a m x → Pays m d y → Pays a d (x + y)
 pays_then a m d x y one two made spent paid =
@@ -33,7 +42,7 @@ pays_then a m d x y one two made spent paid =
     let held2 : held_by d ≡ held_by m + 4096 * second.chunks = second.held in
     let all : made + first.chunks + second.chunks ≡ made + (first.chunks + second.chunks) = omega arith in
     let cost : spent + x + y ≡ spent + (x + y) = omega arith in
-    pays_so a d made spent (x + y) (first.chunks + second.chunks) (omega (arith, held1, held2))
+    pays_so a d made spent (x + y) (first.chunks + second.chunks) (omega (arith, held1, held2)) (λ e. no_sum first.chunks second.chunks (first.none (left_none x y e)) (second.none (right_none x y e)))
     (subst (λ (n : ℕ). Paid d n (spent + (x + y))) all (subst (λ (n : ℕ). Paid d (made + first.chunks + second.chunks) n) cost second.paid))
 
 pub pays_cost : (a d : Chunks) (x y : ℕ) → x ≡ y → Pays a d x → Pays a d y
@@ -80,8 +89,8 @@ paid_new class a d made spent lt f (spare_left n l s bound le) =
 paid_new class a d made spent lt f (all_paid le) = new_chunk class a d made spent lt f le
 
 pays_source : (class : ℕ) (a d : Chunks) (name : ℕ) → class < 8 → Takes class a d name → CutFrom a d name (class_len class) ⊎ CutNew a d (class_len class) → Pays a d (8 + class_len class)
-pays_source class a d name lt t (inl f) made spent paid = let held : held_by d ≡ held_by a = f.held in pays_so a d made spent (8 + class_len class) 0 (omega (arith, held)) (paid_from class a d name made spent lt t f paid)
-pays_source class a d name lt t (inr f) made spent paid = let held : held_by d ≡ held_by a + 4096 = f.held in pays_so a d made spent (8 + class_len class) 1 (omega (arith, held)) (paid_new class a d made spent lt f paid)
+pays_source class a d name lt t (inl f) made spent paid = let held : held_by d ≡ held_by a = f.held in pays_so a d made spent (8 + class_len class) 0 (omega (arith, held)) (λ e. refl) (paid_from class a d name made spent lt t f paid)
+pays_source class a d name lt t (inr f) made spent paid = let held : held_by d ≡ held_by a + 4096 = f.held in pays_so a d made spent (8 + class_len class) 1 (omega (arith, held)) (λ e. absurd (omega (arith, e))) (paid_new class a d made spent lt f paid)
 
 pub pays_takes : (class : ℕ) (a d : Chunks) (name : ℕ) → class < 8 → Takes class a d name → Pays a d (8 + class_len class)
 pays_takes class a d name lt t = pays_source class a d name lt t t.source

@@ -89,7 +89,7 @@ paid_more c made spent more le (all_paid enough) = all_paid (omega (arith, le, e
 pays_most : (a d : Chunks) (x y : ℕ) → x ≤ y → Pays a d x → Pays a d y
 pays_most a d x y le pays made spent paid =
     let p : PaysMore a d made spent x = pays made spent paid in
-    pays_so a d made spent y p.chunks p.held (paid_more d (made + p.chunks) (spent + x) (spent + y) (omega (arith, le)) p.paid)
+    pays_so a d made spent y p.chunks p.held (λ e. p.none (omega (arith, le, e))) (paid_more d (made + p.chunks) (spent + x) (spent + y) (omega (arith, le)) p.paid)
 
 -- nothing is stored
 pub stores_none : (a : ArenaModel) (text : List ℕ) → a.taken < 2 ^ 64 → length text ≡ 0 → TakesText a a none text

@@ -102,10 +102,11 @@ pub data Paid (chunks : Chunks) (made spent : ℕ) : Type 0 where
   spare_left : (name len : ℕ) → IsSpare chunks name len → len ≤ 4088 → 2041 * made + 2047 ≤ spent + len → Paid chunks made spent
   all_paid : 2041 * made ≤ spent → Paid chunks made spent
 
--- so many chunks more for blocks of this cost; all that were made are as many as the bytes taken say
+-- so many chunks more for blocks of this cost, and none for none; all that were made are as many as the bytes taken say
 pub record PaysMore (before after : Chunks) (made spent cost : ℕ) : Type 0 where
   pub chunks : ℕ
   pub held : held_by after ≡ held_by before + 4096 * chunks
+  pub none : cost ≡ 0 → chunks ≡ 0
   pub paid : Paid after (made + chunks) (spent + cost)
   pub few : 2041 * (made + chunks) ≤ spent + cost + 2041
 

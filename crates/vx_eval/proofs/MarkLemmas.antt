@@ -1,11 +1,13 @@
 -- What marks let through, by cases on them.
-use Rattle.std.proofs.Common.{◌≡◌, ℕ, zero, suc, ◌<◌, ◌≤◌, true, false, refl, sym, subst, arith}
+use Rattle.std.proofs.Common.{◌≡◌, ◌∙◌, ℕ, zero, suc, ◌<◌, ◌≤◌, true, false, List, length, get_or, refl, sym, ap, subst, arith, tests}
 use Rattle.std.specs.Prelude.{nat_eq, nat_le, nat_lt}
 use Rattle.vx_value.specs.declared.value.Value.{Value}
 use Rattle.vx_value.specs.declared.value.Value.TheVariants.{Null}
 use Rattle.vx_expr.specs.declared.outcome.Got.{Got}
 use Rattle.vx_expr.specs.declared.outcome.Got.TheVariants as got
 use Rattle.vx_expr.specs.Eval.{null, binary}
+use Rattle.vx_vector.specs.Marks.{strict_mark, strict_marks}
+use Rattle.vx_vector.proofs.MarkLemmas.{get_or-strict_marks}
 use Rattle.vx_eval.specs.Got.{got_under, fault_of, strictest, marked}
 
 pub not_fine : (m : ℕ) → 2 ≤ m → nat_eq m 0 ≡ false
@@ -61,3 +63,13 @@ marked_fine m = by_mark (λ (n : ℕ). marked n 0 ≡ n) refl refl (λ (n : ℕ)
 pub strict_test : (f : Value → Value → Got) (x y out : Value) (left right : ℕ) → f x Null ≡ null → f Null y ≡ null → f Null Null ≡ null → got.Value out ≡ f x y → got_under (strictest left right) out ≡ binary f (got_under left x) (got_under right y)
 strict_test f x y out left right ea eb ec e =
     subst (λ (m : ℕ). got_under m out ≡ binary f (got_under left x) (got_under right y)) (marked_fine (strictest left right)) (strict_two f x y out 0 left right ea eb ec e)
+
+-- the same marks as vx_vector's kernel makes of whole lists
+same_strict : (l r : ℕ) → strict_mark l r ≡ strictest l r
+same_strict l r = grind (arith, tests)
+
+-- one row of a strict function, where its values were computed without a fault, and its marks in a loop of their own
+pub strict_row : (f : Value → Value → Got) (x y out : Value) (lefts rights marks : List ℕ) (k : ℕ) → f x Null ≡ null → f Null y ≡ null → f Null Null ≡ null → length rights ≡ length lefts → k < length lefts → marks ≡ strict_marks lefts rights → got.Value out ≡ f x y → got_under (get_or marks k 1) out ≡ binary f (got_under (get_or lefts k 1) x) (got_under (get_or rights k 1) y)
+strict_row f x y out lefts rights marks k ea eb ec even h is e =
+    let mark : get_or marks k 1 ≡ strictest (get_or lefts k 1) (get_or rights k 1) = ap (λ l. get_or l k 1) is ∙ get_or-strict_marks lefts rights k 1 1 1 even h ∙ same_strict (get_or lefts k 1) (get_or rights k 1) in
+    rw mark (strict_test f x y out (get_or lefts k 1) (get_or rights k 1) ea eb ec e)

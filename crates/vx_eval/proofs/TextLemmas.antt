@@ -4,8 +4,6 @@ use Rattle.std.proofs.Math.ListN.{get_or-append}
 use Rattle.std.proofs.Math.Seq.{get_or-append_seam}
 use Rattle.std.proofs.lemmas.Bool.{cases_eq}
 use Rattle.std.specs.Prelude.{if◌then◌else◌, nat_eq, nat_le}
-use Rattle.std.proofs.lemmas.Str.{IsUtf8-append}
-use Rattle.vx_value.specs.Value.{IsText}
 use Rattle.vx_value.specs.declared.value.Value.{Value}
 use Rattle.vx_value.specs.declared.value.Kind.TheVariants as kind
 use Rattle.vx_value.specs.declared.value.Value.TheVariants.{Null, Bool as Truth, Int, Text}
@@ -18,12 +16,6 @@ use Rattle.vx_expr.specs.Eval.{binary, concatenation, of_texts, choice, first_gi
 use Rattle.vx_eval.specs.Got.{got_of, got_under, strictest, marked, tried_mark}
 use Rattle.vx_eval.specs.TextRows.{blank_row, joined, joined_row, chosen_row, given_row, tried_row}
 use Rattle.vx_eval.proofs.MarkLemmas.{by_mark, not_fine, not_null, below_two, strict_two}
-
-pub joined_is_text : (a b xs : List ℕ) → IsText a → IsText b → length a + length b ≤ 65535 → xs ≡ a ++ b → IsText xs
-joined_is_text a b xs ta tb short e = rw e (record {
-  utf8 = IsUtf8-append a b ta.utf8 tb.utf8;
-  short = omega (arith, length-append a b);
-})
 
 -- ---- what the rows give
 same_under : (m : ℕ) (v w : Value) → nat_eq m 0 ≡ false → got_under m v ≡ got_under m w

@@ -1,18 +1,20 @@
-ghost use Rattle.std.specs.Prelude.{◌≡◌, ℕ, ◌<◌, if◌then◌else◌, length, IfOk, FitsSigned};
+ghost use Rattle.std.specs.Prelude.{◌≡◌, ℕ, ◌<◌, if◌then◌else◌, length, get_or, pos, IfOk, FitsSigned};
 ghost use Rattle.std.specs.Int.{w64};
 ghost use Rattle.vx_value.specs.declared.value.Value.TheVariants as value;
+ghost use Rattle.vx_expr.specs.declared.outcome.Got.TheVariants as got;
 ghost use Rattle.vx_expr.specs.Eval as eval;
 ghost use Rattle.vx_eval.specs.Got.{got_of, got_under};
 ghost use Rattle.vx_vector.specs.Lanes.{int_lane};
 
-use crate::marks::{DIVIDE_BY_ZERO, OVERFLOW, marked, strictest};
+use crate::leaf::filled;
+use crate::marks::{DIVIDE_BY_ZERO, OVERFLOW, marked, strictest, strictest_marks};
 use crate::rows::{One, Two, each_one, each_two};
 use std::alloc::{AllocError, Global};
 use std::marker::PhantomData;
 use vx_vector::{FINE, Ints};
 
 /// A strict function of two ints. Its meaning is that of one row.
-pub(crate) trait IntOp {
+pub trait IntOp {
     ghost use Rattle.std.specs.Prelude.{ℤ};
     ghost use Rattle.vx_expr.specs.declared.outcome.Got.{Got};
 
@@ -22,9 +24,13 @@ pub(crate) trait IntOp {
     fn at(x: i64, y: i64) -> (i64, u8)
         ensures got { got_under result.1 (value.Int result.0) ≡ meaning x y }
         ensures fits { FitsSigned w64 result.0 };
+
+    /// Whether it costs little to compute a row again.
+    fn is_cheap() -> bool;
 }
 
-pub(crate) struct Plus;
+/// `plus`.
+pub struct Plus;
 
 impl IntOp for Plus {
     ghost meaning = { eval.sum };
@@ -34,9 +40,15 @@ impl IntOp for Plus {
         let (value, over) = x.overflowing_add(y);
         (value, overflow_if(over))
     }
+
+    #[inline(always)]
+    fn is_cheap() -> bool {
+        true
+    }
 }
 
-pub(crate) struct Minus;
+/// `minus`.
+pub struct Minus;
 
 impl IntOp for Minus {
     ghost meaning = { eval.difference };
@@ -46,9 +58,15 @@ impl IntOp for Minus {
         let (value, over) = x.overflowing_sub(y);
         (value, overflow_if(over))
     }
+
+    #[inline(always)]
+    fn is_cheap() -> bool {
+        true
+    }
 }
 
-pub(crate) struct Multiply;
+/// `multiply`.
+pub struct Multiply;
 
 impl IntOp for Multiply {
     ghost meaning = { eval.product };
@@ -60,9 +78,15 @@ impl IntOp for Multiply {
             None => (0, OVERFLOW),
         }
     }
+
+    #[inline(always)]
+    fn is_cheap() -> bool {
+        false
+    }
 }
 
-pub(crate) struct Divide;
+/// `divide`.
+pub struct Divide;
 
 impl IntOp for Divide {
     ghost meaning = { eval.quotient };
@@ -77,9 +101,15 @@ impl IntOp for Divide {
         }
         (x / y, FINE)
     }
+
+    #[inline(always)]
+    fn is_cheap() -> bool {
+        false
+    }
 }
 
-pub(crate) struct Modulus;
+/// `modulus`.
+pub struct Modulus;
 
 impl IntOp for Modulus {
     ghost meaning = { eval.remainder };
@@ -90,6 +120,11 @@ impl IntOp for Modulus {
             return (0, DIVIDE_BY_ZERO);
         }
         (x.wrapping_rem(y), FINE)
+    }
+
+    #[inline(always)]
+    fn is_cheap() -> bool {
+        false
     }
 }
 
@@ -115,8 +150,46 @@ impl<O: IntOp> Two<i64, i64, i64> for Strict<O> {
     }
 }
 
-/// The function on each row.
-pub(crate) fn of_ints<O: IntOp>(alloc: Global, a: &Ints, b: &Ints) -> Result<Ints, AllocError>
+/// The function on each row. Where it is cheap, all values are computed before any mark, in lanes; its own
+/// faults are rare, and only where there is one the rows are computed again, each with its mark.
+pub fn of_ints<O: IntOp>(alloc: Global, a: &Ints, b: &Ints) -> Result<Ints, AllocError>
+    requires { length b.now.marks.items ≡ length a.now.marks.items }
+    ensures rows { IfOk result (λ r. length r.marks.items ≡ length a.now.marks.items) }
+    ensures each { IfOk result (λ r. (k : ℕ) → k < length a.now.marks.items → got_of (int_lane r k) ≡ eval.binary (eval.of_ints O.meaning) (got_of (int_lane a.now k)) (got_of (int_lane b.now k))) }
+{
+    if !O::is_cheap() {
+        return row_by_row::<O>(alloc, a, b);
+    }
+    let (values, faults) = computed::<O>(alloc, a.values.as_slice(), b.values.as_slice())?;
+    if faults > 0 {
+        return row_by_row::<O>(alloc, a, b);
+    }
+    let marks = strictest_marks(alloc, a.marks.as_slice(), b.marks.as_slice())?;
+    Ok(Ints { values, marks })
+}
+
+/// What the function gives for values alone, and on how many rows that is a fault.
+fn computed<O: IntOp>(
+    alloc: Global,
+    xs: &[i64],
+    ys: &[i64],
+) -> Result<(Vec<i64>, usize), AllocError>
+    requires { length ys.now ≡ length xs.now }
+    ensures rows { IfOk result (λ r. length r.0.items ≡ length xs.now) }
+    ensures each { IfOk result (λ r. r.1 ≡ 0 → (k : ℕ) → k < length xs.now → got.Value (value.Int (get_or r.0.items k (pos 0))) ≡ O.meaning (get_or xs.now k (pos 0)) (get_or ys.now k (pos 0))) }
+{
+    let mut values = filled(alloc, 0, xs.len())?;
+    let mut faults = 0;
+    for row in 0..xs.len() {
+        let (value, own) = O::at(xs[row], ys[row]);
+        values[row] = value;
+        faults += usize::from(own != FINE);
+    }
+    Ok((values, faults))
+}
+
+/// Each row's value and mark at once.
+fn row_by_row<O: IntOp>(alloc: Global, a: &Ints, b: &Ints) -> Result<Ints, AllocError>
     requires { length b.now.marks.items ≡ length a.now.marks.items }
     ensures rows { IfOk result (λ r. length r.marks.items ≡ length a.now.marks.items) }
     ensures each { IfOk result (λ r. (k : ℕ) → k < length a.now.marks.items → got_of (int_lane r k) ≡ eval.binary (eval.of_ints O.meaning) (got_of (int_lane a.now k)) (got_of (int_lane b.now k))) }

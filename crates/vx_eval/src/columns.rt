@@ -82,7 +82,7 @@ fn wanted_texts(
     ensures rows { IfOk result (λ t. length t ≡ length places.now) }
     ensures each { IfOk result (λ t. (k : ℕ) → k < length places.now → get_or wanted.now k false ≡ true → got_of (text_lane t k) ≡ got.Value (value_at column.now.values (get_or places.now k 0))) }
 {
-    let mut out = Texts::new(alloc);
+    let mut out = Texts::with_room(alloc, places.len(), 0)?;
     for row in 0..places.len() {
         push_wanted(&mut out, column, places[row], wanted[row])?;
     }

@@ -77,7 +77,7 @@ fn texts_filled(alloc: Global, text: &[u8], wanted: &[bool]) -> Result<Texts, Al
     ensures rows { IfOk result (λ t. length t ≡ length wanted.now) }
     ensures at { IfOk result (λ t. (k : ℕ) → k < length wanted.now → text_at t k ≡ (if get_or wanted.now k false then text_row 0 text.now else blank_row 1)) }
 {
-    let mut texts = Texts::new(alloc);
+    let mut texts = Texts::with_room(alloc, wanted.len(), 0)?;
     for row in 0..wanted.len() {
         if wanted[row] {
             texts.push(FINE, text)?;
@@ -92,7 +92,7 @@ fn nulls_filled(alloc: Global, count: usize) -> Result<Texts, AllocError>
     ensures rows { IfOk result (λ t. length t ≡ count) }
     ensures at { IfOk result (λ t. (k : ℕ) → k < count → text_at t k ≡ blank_row 1) }
 {
-    let mut texts = Texts::new(alloc);
+    let mut texts = Texts::with_room(alloc, count, 0)?;
     for _row in 0..count {
         texts.push(NULL, &[])?;
     }

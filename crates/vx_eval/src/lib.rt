@@ -21,6 +21,7 @@ mod evaluation;
 mod fault_tests;
 #[cfg(test)]
 mod fixtures;
+pub mod kernels;
 mod leaf;
 mod logic;
 mod marks;

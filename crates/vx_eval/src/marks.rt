@@ -1,7 +1,9 @@
-ghost use Rattle.std.specs.Prelude.{◌≡◌};
+ghost use Rattle.std.specs.Prelude.{◌≡◌, length, IfOk};
+ghost use Rattle.vx_vector.specs.Marks.{strict_marks};
 ghost use Rattle.vx_eval.specs.Got as got;
 
-use vx_vector::FINE;
+use std::alloc::{AllocError, Global};
+use vx_vector::{FINE, combine_marks};
 
 pub(crate) const OVERFLOW: u8 = 2;
 
@@ -27,4 +29,18 @@ pub(crate) fn marked(before: u8, own: u8) -> u8
     ensures { result ≡ got.marked before own }
 {
     if before == FINE { own } else { before }
+}
+
+/// The marks of a strict function's rows before it is computed.
+pub(crate) fn strictest_marks(
+    alloc: Global,
+    left: &[u8],
+    right: &[u8],
+) -> Result<Vec<u8>, AllocError>
+    requires { length right.now ≡ length left.now }
+    ensures { IfOk result (λ marks. marks.items ≡ strict_marks left.now right.now) }
+{
+    let mut marks = Vec::from_slice(alloc, left)?;
+    combine_marks(&mut marks, right);
+    Ok(marks)
 }

@@ -20,11 +20,10 @@ pub(crate) fn concatenations(
     ensures rows { IfOk result (λ r. length r ≡ length a.now) }
     ensures each { IfOk result (λ r. (k : ℕ) → k < length a.now → text_at r k ≡ (if get_or wanted.now k false then joined_row (text_at a.now k) (text_at b.now k) else blank_row 1)) }
 {
-    let mut out = Texts::new(alloc);
-    let mut bytes = Vec::new(alloc);
+    let mut out = Texts::with_room_of(alloc, a, b)?;
     for row in 0..a.len() {
         if wanted[row] {
-            push_joined_row(&mut out, &mut bytes, a, b, row)?;
+            push_joined_row(&mut out, a, b, row)?;
         } else {
             out.push(NULL, &[])?;
         }
@@ -44,7 +43,7 @@ pub(crate) fn chosen_texts(
     ensures rows { IfOk result (λ r. length r ≡ length c.now.marks.items) }
     ensures each { IfOk result (λ r. (k : ℕ) → k < length c.now.marks.items → text_at r k ≡ chosen_row (get_or c.now.values.items k false) (get_or c.now.marks.items k 1) (text_at a.now k) (text_at b.now k)) }
 {
-    let mut out = Texts::new(alloc);
+    let mut out = Texts::with_room(alloc, c.marks.len(), 0)?;
     for row in 0..c.marks.len() {
         push_chosen(&mut out, c.values[row], c.marks[row], a, b, row)?;
     }
@@ -57,7 +56,7 @@ pub(crate) fn given_texts(alloc: Global, a: &Texts, b: &Texts) -> Result<Texts, 
     ensures rows { IfOk result (λ r. length r ≡ length a.now) }
     ensures each { IfOk result (λ r. (k : ℕ) → k < length a.now → text_at r k ≡ given_row (text_at a.now k) (text_at b.now k)) }
 {
-    let mut out = Texts::new(alloc);
+    let mut out = Texts::with_room(alloc, a.len(), 0)?;
     for row in 0..a.len() {
         push_given(&mut out, a, b, row)?;
     }
@@ -69,34 +68,28 @@ pub(crate) fn tried_texts(alloc: Global, a: &Texts) -> Result<Texts, AllocError>
     ensures rows { IfOk result (λ r. length r ≡ length a.now) }
     ensures each { IfOk result (λ r. (k : ℕ) → k < length a.now → text_at r k ≡ tried_row (text_at a.now k)) }
 {
-    let mut out = Texts::new(alloc);
+    let mut out = Texts::with_room(alloc, a.len(), 0)?;
     for row in 0..a.len() {
         out.push(tried(a.mark(row)), a.get(row))?;
     }
     Ok(out)
 }
 
-/// Adds two rows as one. The bytes are room that is used again.
-fn push_joined_row(
-    out: &mut Texts,
-    bytes: &mut Vec<u8>,
-    a: &Texts,
-    b: &Texts,
-    row: usize,
-) -> Result<(), AllocError>
+/// Adds two rows as one.
+fn push_joined_row(out: &mut Texts, a: &Texts, b: &Texts, row: usize) -> Result<(), AllocError>
     requires left { row < length a.now }
     requires right { row < length b.now }
     ensures { OnOk result (out.new ≡ out.old ++ joined_row (text_at a.now row) (text_at b.now row) ∷ []) }
 {
     let mark = strictest(a.mark(row), b.mark(row));
     if mark == FINE {
-        return push_joined(out, bytes, a.get(row), b.get(row));
+        return push_joined(out, a.get(row), b.get(row));
     }
     out.push(mark, &[])
 }
 
 /// Adds two texts as one, or a text that is too long.
-fn push_joined(out: &mut Texts, bytes: &mut Vec<u8>, a: &[u8], b: &[u8]) -> Result<(), AllocError>
+fn push_joined(out: &mut Texts, a: &[u8], b: &[u8]) -> Result<(), AllocError>
     requires left { IsText a.now }
     requires right { IsText b.now }
     ensures { OnOk result (out.new ≡ out.old ++ joined (text_row 0 a.now) (text_row 0 b.now) ∷ []) }
@@ -104,10 +97,7 @@ fn push_joined(out: &mut Texts, bytes: &mut Vec<u8>, a: &[u8], b: &[u8]) -> Resu
     if a.len() + b.len() > 65535 {
         return out.push(TOO_LONG, &[]);
     }
-    bytes.clear();
-    bytes.extend_from_slice(a)?;
-    bytes.extend_from_slice(b)?;
-    out.push(FINE, bytes.as_slice())
+    out.push_joined(a, b)
 }
 
 fn push_chosen(

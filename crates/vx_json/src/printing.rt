@@ -56,6 +56,7 @@ fn push_rest(text: &mut Vec<u8>, cells: &[Value]) -> Result<(), AllocError>
 }
 
 #[tactic(auto, using(crate::proofs::PrintingLaws::texts))]
+#[inline(always)]
 fn push_cell(text: &mut Vec<u8>, cell: &Value) -> Result<(), AllocError>
     ensures ok { OnOk result (text.new.items ≡ text.old.items ++ cell_text cell.now) }
     ensures utf8 { OnOk result (IsUtf8 (cell_text cell.now)) }
@@ -69,6 +70,8 @@ fn push_cell(text: &mut Vec<u8>, cell: &Value) -> Result<(), AllocError>
     }
 }
 
+// Texts go out of line, so that the loop over cells is short where they are ints.
+#[inline(never)]
 fn push_quoted(text: &mut Vec<u8>, bytes: &[u8]) -> Result<(), AllocError>
     ensures { OnOk result (text.new.items ≡ text.old.items ++ quoted bytes.now) }
 {

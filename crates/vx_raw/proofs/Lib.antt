@@ -1,1 +1,5 @@
+pub mod Crosses
+pub mod Made
 pub mod RegionLemmas
+pub mod Rows
+pub mod Sharing

@@ -1,1 +1,3 @@
+pub mod Lends
+pub mod Ownership
 pub mod Region

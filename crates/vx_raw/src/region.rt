@@ -56,6 +56,7 @@ impl Region {
     }
 
     /// The so many bytes that stand there.
+    #[inline]
     pub fn bytes(&self, at: Place, len: u64) -> &[u8]
         requires { IsInside self.now at len }
         ensures { result.now ≡ take len (drop at.at (chunk_at self.now at.chunk)) }
@@ -64,6 +65,7 @@ impl Region {
     }
 
     /// Puts these bytes there.
+    #[inline]
     pub fn write(&mut self, at: Place, from: &[u8])
         requires { IsInside self.old at (length from.now) }
         ensures { self.new ≡ after_write self.old at from.now }
@@ -82,7 +84,7 @@ impl Region {
         if self.held == 0 {
             self.chunks.clear();
         } else {
-            self.chunks[number] = Chunk::empty(self.alloc);
+            self.chunks[number] = Chunk::empty();
         }
     }
 
@@ -90,6 +92,7 @@ impl Region {
     pub fn close(self) {}
 
     /// How many bytes its chunks have together.
+    #[inline]
     pub fn held(&self) -> u64
         ensures { result ≡ bytes_held self.now }
     {

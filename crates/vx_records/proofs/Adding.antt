@@ -1,12 +1,12 @@
 -- What adding a record does.
-use Rattle.std.proofs.Common.{inl, inr, ◌≡◌, ◌≢◌, ◌⊎◌, ℕ, ◌+◌, ◌-◌, ◌*◌, ◌/◌, ◌^◌, ◌<◌, ◌≤◌, Option, Some, None, IsSome, List, [], ◌∷◌, ◌++◌, length, get_or, set, map, refl, sym, ap, ◌∙◌, subst, arith}
+use Rattle.std.proofs.Common.{inl, inr, ◌≡◌, ◌≢◌, ℕ, ◌+◌, ◌-◌, ◌^◌, ◌<◌, ◌≤◌, Option, Some, None, IsSome, List, [], ◌∷◌, ◌++◌, length, set, map, refl, sym, ap, ◌∙◌, subst, arith}
 use Rattle.std.proofs.lemmas.Bool.{cases_eq, cases_lt}
 use Rattle.std.proofs.lemmas.Option.{none-some}
 use Rattle.std.proofs.lemmas.List.{get_or-set_same, get_or-set_other, get_or_append_left, get_or_push, get_or_past, length-set, length_push, map_push}
 use Rattle.vx_records.specs.Record.{Record, RecordsModel, record_in, with_record, and_record, HasNoFree, AddsRecord}
 use Rattle.vx_records.specs.Frame.{FramesModel, frame_at, with_frame, and_frame}
-use Rattle.vx_records.specs.Head.{link_in, record_of, records_of, IsIn, IsLinked, IsListed}
-use Rattle.vx_records.proofs.Listing.{in_frames, past_frames, length-records, IsFree, free_in, IsSame, linked_kept, changed, other, same_length, same_at, long_kept, few_kept, seen_changed, Starts, starts, no_free}
+use Rattle.vx_records.specs.Head.{link_in, record_of, records_of, IsIn, IsListed}
+use Rattle.vx_records.proofs.Listing.{in_frames, length-records, IsFree, free_in, linked_kept, changed, other, same_length, same_at, long_kept, few_kept, seen_changed, Starts, starts, no_free}
 
 -- a record was added to the frames
 pub record Adds (now : RecordsModel) (n : ℕ) (r : Record) (after : FramesModel) (free : ℕ) : Type 0 where

@@ -1,8 +1,8 @@
 -- What each change of one record leaves of all, for owners of records.
-use Rattle.std.proofs.Common.{◌≡◌, ◌≢◌, ℕ, ◌<◌, ◌≤◌, Option, Some, None, length, refl, sym, ap, ◌∙◌, subst, arith, inl, inr}
+use Rattle.std.proofs.Common.{◌≡◌, ◌≢◌, ℕ, ◌<◌, Option, Some, None, length, refl, sym, ap, ◌∙◌, subst, inl, inr}
 use Rattle.std.proofs.lemmas.Bool.{cases_eq, cases_lt}
 use Rattle.std.proofs.lemmas.Option.{none-some}
-use Rattle.std.proofs.lemmas.List.{get_or-set_same, get_or-set_other, get_or_past, length-set}
+use Rattle.std.proofs.lemmas.List.{get_or-set_same, get_or-set_other, get_or_past}
 use Rattle.vx_records.specs.Record.{Record, RecordsModel, record_in, record_at, IsLive, with_record, without_record, AddsRecord}
 
 pub record_found : (m : RecordsModel) (n : ℕ) (r : Record) → record_in m n ≡ Some r → record_at m n ≡ r

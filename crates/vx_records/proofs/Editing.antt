@@ -1,16 +1,15 @@
 -- What each write to a record's frame does, as the calls make it.
-use Rattle.std.proofs.Common.{inl, inr, ◌≡◌, ◌≢◌, ℕ, ◌+◌, ◌-◌, ◌*◌, ◌/◌, ◌%◌, ◌^◌, ◌<◌, ◌≤◌, Bool, true, false, cond, eqb, Option, Some, None, IfSome, is_some, Result, Ok, Err, IfOk, OnErr, List, [], ◌∷◌, ◌++◌, length, take, drop, refl, sym, ap, ◌∙◌, subst, arith, w32}
+use Rattle.std.proofs.Common.{◌≡◌, ◌≢◌, ℕ, ◌+◌, ◌-◌, ◌*◌, ◌/◌, ◌%◌, ◌^◌, ◌<◌, ◌≤◌, Bool, true, false, cond, eqb, Option, Some, None, IfSome, is_some, Result, Ok, Err, IfOk, OnErr, List, [], ◌++◌, length, take, drop, refl, sym, ap, ◌∙◌, subst, arith, w32}
 use Rattle.std.specs.declared.alloc.AllocError.{AllocError}
 use Rattle.std.specs.Int.{div_ceil, to_le_bytes}
-use Rattle.std.proofs.lemmas.Bool.{cases_lt}
 use Rattle.std.proofs.lemmas.List.{length-append, length-drop, take_all}
 use Rattle.vx_raw.specs.Region.{written}
-use Rattle.vx_records.specs.Record.{Record, RecordsModel, record_in, record_at, IsLive, with_record, without_record, fresh, AddsRecord, rows_a_chunk, chunk_bytes}
+use Rattle.vx_records.specs.Record.{Record, RecordsModel, record_in, record_at, IsLive, with_record, fresh, AddsRecord, chunk_bytes}
 use Rattle.vx_records.specs.Frame.{FramesModel, frame_at, with_bytes, with_frame, and_frame, per_chunk}
 use Rattle.vx_records.specs.Head.{link_in, flags_in, head_of, number_of, link_of, record_of, records_of, IsListed}
 use Rattle.vx_records.proofs.Overwriting.{length-written}
 use Rattle.vx_records.proofs.Heading.{Spells, spells, next_set, matched_set, body_set, freed, free_link, length-head_of, new_record}
-use Rattle.vx_records.proofs.Listing.{Lives, lives, in_frames, past_frames, length-records, Rewrites, rewrites, Releases, releases, free_small, Starts, starts}
+use Rattle.vx_records.proofs.Listing.{Lives, lives, in_frames, past_frames, length-records, Rewrites, rewrites, Releases, releases, free_small}
 use Rattle.vx_records.proofs.Adding.{Adds, reuses, extends}
 use Rattle.vx_records.proofs.Changes.{added_live, with_live}
 

@@ -1,14 +1,13 @@
 -- A frame more, and the chunk that it may need.
-use Rattle.std.proofs.Common.{inl, inr, ◌≡◌, ◌≢◌, ℕ, ◌+◌, ◌-◌, ◌*◌, ◌/◌, ◌%◌, ◌^◌, ◌<◌, ◌≤◌, Bool, true, false, cond, eqb, List, [], ◌∷◌, ◌++◌, length, get_or, take, drop, map, replicate, refl, sym, ap, ◌∙◌, subst, arith}
+use Rattle.std.proofs.Common.{inl, inr, ◌≡◌, ◌≢◌, ℕ, ◌+◌, ◌-◌, ◌*◌, ◌/◌, ◌^◌, ◌<◌, ◌≤◌, Bool, true, false, cond, eqb, List, [], ◌∷◌, ◌++◌, length, take, drop, replicate, refl, sym, ap, ◌∙◌, subst, arith}
 use Rattle.std.specs.Int.{div_ceil}
-use Rattle.std.specs.List.{range_with_len}
 use Rattle.std.proofs.lemmas.Bool.{cases_eq, cases_lt, eq-eqb, ne_eqb}
 use Rattle.std.proofs.lemmas.List.{ext_get_or, length-replicate, length-drop, length-take-le, get_or_append_left, get_or_push, length_push}
 use Rattle.std.proofs.lemmas.List.FromFn.{map-range_with_len_more}
 use Rattle.std.proofs.lemmas.List.Sums.{sum_by_push}
 use Rattle.vx_raw.specs.Region.{RegionModel, chunk_at, bytes_held, after_grow}
 use Rattle.vx_records.specs.Frame.{FramesModel, per_chunk, place_of, frame_in, frames_of, seen_in, AreFrames, AddsFrame}
-use Rattle.vx_records.proofs.Counting.{Needs, per_some, needed, grown, roomy, count_few}
+use Rattle.vx_records.proofs.Counting.{per_some, needed, grown, roomy, count_few}
 use Rattle.vx_records.proofs.Placing.{length-frames_of, frames_at, Stands, stands, per_positive, seen_size, seen_count}
 
 -- no frames

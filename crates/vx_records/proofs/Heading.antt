@@ -1,5 +1,5 @@
 -- What a frame's bytes spell after a write.
-use Rattle.std.proofs.Common.{◌≡◌, ℕ, ◌+◌, ◌-◌, ◌/◌, ◌%◌, ◌^◌, ◌<◌, ◌≤◌, Bool, true, false, cond, eqb, Option, Some, None, List, [], ◌∷◌, ◌++◌, length, take, drop, refl, sym, ap, ◌∙◌, subst, arith, w32}
+use Rattle.std.proofs.Common.{◌≡◌, ℕ, ◌+◌, ◌-◌, ◌/◌, ◌%◌, ◌^◌, ◌<◌, ◌≤◌, true, cond, eqb, Option, Some, None, List, [], ◌∷◌, ◌++◌, length, take, drop, refl, sym, ap, ◌∙◌, arith, w32}
 use Rattle.std.specs.Int.{to_le_bytes, from_le_bytes}
 use Rattle.std.proofs.lemmas.Nat.{from_le_bytes-to_le_bytes_4}
 use Rattle.std.proofs.lemmas.List.{append-nil, drop_all, length-drop, get_or-set_same, set-set, set_at}
@@ -8,7 +8,7 @@ use Rattle.vx_raw.specs.Region.{written}
 use Rattle.vx_records.specs.Record.{Record, fresh}
 use Rattle.vx_records.specs.Frame.{FramesModel, frame_at, with_bytes, with_frame, and_frame, AddsFrame}
 use Rattle.vx_records.specs.Head.{link_in, flags_in, head_of, number_of, record_of}
-use Rattle.vx_records.proofs.Overwriting.{length-written, part_before, drop_written}
+use Rattle.vx_records.proofs.Overwriting.{part_before, drop_written}
 
 -- the record of a link, flags and a body
 reading : ℕ → ℕ → List ℕ → Option Record

@@ -1,11 +1,10 @@
 -- What a change of one frame does to the records and to the list of free numbers.
-use Rattle.std.proofs.Common.{inl, inr, ◌≡◌, ◌≢◌, ◌⊎◌, ℕ, suc, ◌+◌, ◌-◌, ◌*◌, ◌/◌, ◌^◌, ◌<◌, ◌≤◌, Option, Some, None, IsSome, List, [], ◌∷◌, ◌++◌, length, get_or, set, map, refl, sym, ap, ◌∙◌, subst, arith}
-use Rattle.std.specs.Int.{div_ceil}
+use Rattle.std.proofs.Common.{inl, inr, ◌≡◌, ◌≢◌, ◌⊎◌, ℕ, ◌+◌, ◌-◌, ◌^◌, ◌<◌, ◌≤◌, Option, Some, None, List, [], ◌∷◌, length, set, map, refl, sym, ap, ◌∙◌, subst, arith}
 use Rattle.std.proofs.lemmas.Bool.{cases_eq, cases_lt}
-use Rattle.std.proofs.lemmas.Option.{none-some, same_Some}
-use Rattle.std.proofs.lemmas.List.{get_or-map, get_or_past, get_or-set_same, get_or-set_other, get_or_append_left, get_or_push, length-set, length-map, length_push, map-set, map_push}
-use Rattle.vx_records.specs.Record.{Record, RecordsModel, record_in, record_at, IsLive, with_record, without_record, and_record, HasNoFree, AddsRecord}
-use Rattle.vx_records.specs.Frame.{FramesModel, frame_at, with_frame, and_frame, per_chunk}
+use Rattle.std.proofs.lemmas.Option.{none-some}
+use Rattle.std.proofs.lemmas.List.{get_or-map, get_or_past, get_or-set_same, get_or-set_other, length-set, length-map, map-set}
+use Rattle.vx_records.specs.Record.{Record, RecordsModel, record_in, record_at, IsLive, with_record, without_record}
+use Rattle.vx_records.specs.Frame.{FramesModel, frame_at, with_frame}
 use Rattle.vx_records.specs.Head.{link_in, record_of, records_of, IsIn, IsLinked, IsListed}
 
 -- the record of a number is what its frame spells

@@ -1,8 +1,7 @@
 -- How many bytes of chunks so many records take, for owners that count before they add.
-use Rattle.std.proofs.Common.{◌≡◌, ℕ, suc, ◌+◌, ◌*◌, ◌/◌, ◌<◌, ◌≤◌, List, [], ◌∷◌, length, refl, sym, ap, ◌∙◌, subst, arith}
+use Rattle.std.proofs.Common.{◌≡◌, ℕ, ◌+◌, ◌*◌, ◌<◌, ◌≤◌, List, [], ◌∷◌, length, sym, ap, ◌∙◌, subst, arith}
 use Rattle.std.specs.Int.{div_ceil}
-use Rattle.std.proofs.lemmas.Nat.{mul-le}
-use Rattle.vx_records.specs.Record.{Record, RecordsModel, AddsRecord, rows_a_chunk, chunk_bytes}
+use Rattle.vx_records.specs.Record.{Record, RecordsModel, rows_a_chunk, chunk_bytes}
 use Rattle.vx_records.specs.Adding.{AddsRecords, bytes_of}
 use Rattle.vx_records.specs.Frame.{per_chunk}
 use Rattle.vx_records.proofs.Counting.{per_some, div_ceil_add, div_ceil_more}

@@ -1,7 +1,7 @@
 -- What stands at a place of bytes after others were put over some of them.
-use Rattle.std.proofs.Common.{◌≡◌, ℕ, ◌+◌, ◌-◌, ◌≤◌, List, [], ◌∷◌, ◌++◌, length, take, drop, refl, sym, ap, ◌∙◌, subst, arith}
+use Rattle.std.proofs.Common.{◌≡◌, ℕ, ◌+◌, ◌-◌, ◌≤◌, List, ◌++◌, length, take, drop, sym, ap, ◌∙◌, arith}
 use Rattle.std.proofs.Math.Seq.{take-append-add, drop-append-add}
-use Rattle.std.proofs.lemmas.List.{append_assoc, length-append, length-drop, length-take-le, take-append-drop, take-append-le, drop-append-le, take-take, drop-drop, drop-take, take_at, drop_at, take_all}
+use Rattle.std.proofs.lemmas.List.{append_assoc, length-append, length-drop, length-take-le, take-append-drop, take-append-le, drop-append-le, take-take, drop-drop, drop-take, take_at, drop_at}
 use Rattle.vx_raw.specs.Region.{written}
 
 pub length-written : (bytes : List ℕ) (at : ℕ) (from : List ℕ) → at + length from ≤ length bytes → length (written bytes at from) ≡ length bytes

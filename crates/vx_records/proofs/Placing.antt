@@ -1,15 +1,14 @@
 -- What a write and a new chunk do to the frames of a region.
-use Rattle.std.proofs.Common.{inl, inr, ◌≡◌, ◌≢◌, ◌⊎◌, ℕ, ◌+◌, ◌-◌, ◌*◌, ◌/◌, ◌%◌, ◌^◌, ◌<◌, ◌≤◌, Bool, true, false, cond, eqb, List, [], ◌∷◌, ◌++◌, length, get_or, set, take, drop, map, replicate, refl, sym, ap, ◌∙◌, subst, arith}
+use Rattle.std.proofs.Common.{inl, inr, ◌≡◌, ◌≢◌, ◌⊎◌, ℕ, ◌+◌, ◌-◌, ◌*◌, ◌/◌, ◌%◌, ◌^◌, ◌<◌, ◌≤◌, List, [], length, get_or, set, take, drop, sym, ap, ◌∙◌, subst, arith}
 use Rattle.std.specs.Int.{div_ceil}
-use Rattle.std.specs.List.{range_with_len}
-use Rattle.std.proofs.lemmas.Bool.{cases_eq, cases_lt, ne_eqb}
-use Rattle.std.proofs.lemmas.List.{ext_get_or, get_or-set_same, get_or-set_other, length-set, length-append, length-replicate, length-drop, length-take-le, get_or_append_left, get_or_push, length_push, get_or_past, drop-take, take-take, drop-drop}
-use Rattle.std.proofs.lemmas.List.FromFn.{length-map-range_with_len, get_or-map-range_with_len, map-range_with_len_more}
-use Rattle.std.proofs.lemmas.List.Sums.{sum_by-set, sum_by_push}
-use Rattle.vx_raw.specs.Region.{RegionModel, chunk_at, bytes_held, written, after_write, after_grow, IsInside}
+use Rattle.std.proofs.lemmas.Bool.{cases_eq, cases_lt}
+use Rattle.std.proofs.lemmas.List.{ext_get_or, get_or-set_same, get_or-set_other, length-set, length-drop, length-take-le, drop-take, take-take, drop-drop}
+use Rattle.std.proofs.lemmas.List.FromFn.{length-map-range_with_len, get_or-map-range_with_len}
+use Rattle.std.proofs.lemmas.List.Sums.{sum_by-set}
+use Rattle.vx_raw.specs.Region.{RegionModel, chunk_at, bytes_held, written, after_write, IsInside}
 use Rattle.vx_raw.specs.declared.place.Place.{Place}
-use Rattle.vx_records.specs.Frame.{FramesModel, frame_at, per_chunk, place_of, frame_in, frames_of, seen_in, AreFrames, with_bytes, AddsFrame}
-use Rattle.vx_records.proofs.Counting.{per_some, frame_fits, chunk_there, count_few, grown, roomy, apart, other_place}
+use Rattle.vx_records.specs.Frame.{FramesModel, frame_at, per_chunk, place_of, frame_in, frames_of, seen_in, AreFrames, with_bytes}
+use Rattle.vx_records.proofs.Counting.{per_some, frame_fits, chunk_there, apart, other_place}
 use Rattle.vx_records.proofs.Overwriting.{length-written, part_before, part_behind, part_of}
 
 pub length-frames_of : (size : ℕ) (region : RegionModel) (count : ℕ) → length (frames_of size region count) ≡ count

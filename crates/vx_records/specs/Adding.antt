@@ -1,5 +1,5 @@
 -- Records that are added one after another, and the chunks that they take.
-use Rattle.std.specs.Prelude.{◌≡◌, ℕ, ◌+◌, ◌≤◌, ◌<◌, List, [], ◌∷◌, length}
+use Rattle.std.specs.Prelude.{◌≡◌, ℕ, List, [], ◌∷◌, length}
 use Rattle.vx_records.specs.Record.{Record, RecordsModel, AddsRecord, chunk_bytes}
 
 -- each was added to what those before it left, and nothing else happened between

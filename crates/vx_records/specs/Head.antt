@@ -1,7 +1,7 @@
 -- A record's bytes: 4 of the next record's number plus one, or 0, 4 of flags, and then its body. Numbers
 -- are little-endian. Bit 0 of the flags is set where it is live, bit 1 where it is matched. The free
 -- numbers stand in a list, from one to the next by the same link.
-use Rattle.std.specs.Prelude.{◌≡◌, ℕ, zero, suc, ◌+◌, ◌-◌, ◌/◌, ◌%◌, ◌^◌, ◌<◌, ◌≤◌, ◌==◌, Bool, Option, Some, None, List, [], ◌∷◌, ◌++◌, length, take, drop, map, if◌then◌else◌, ◌⊎◌}
+use Rattle.std.specs.Prelude.{◌≡◌, ℕ, ◌+◌, ◌-◌, ◌/◌, ◌%◌, ◌^◌, ◌<◌, ◌≤◌, ◌==◌, Option, Some, None, List, [], ◌∷◌, ◌++◌, length, take, drop, map, if◌then◌else◌, ◌⊎◌}
 use Rattle.std.specs.Int.{w32, to_le_bytes, from_le_bytes}
 use Rattle.vx_records.specs.Record.{Record, RecordsModel}
 use Rattle.vx_records.specs.Frame.{FramesModel, frame_at}

@@ -6,6 +6,8 @@ pub mod FieldLemmas
 pub mod Filling
 pub mod Holding
 pub mod LayoutLemmas
+pub mod NeedLaw
+pub mod NeedLemmas
 pub mod NullLemmas
 pub mod ResultLemmas
 pub mod RowLemmas

@@ -300,6 +300,7 @@ pays_more a d x y less pays made spent paid =
     record {
       chunks = p.chunks;
       held = p.held;
+      none = λ e. p.none (omega (arith, less, e));
       paid = paid_more d (made + p.chunks) (spent + x) (spent + y) (omega (arith, less)) p.paid;
       few = omega (arith, less, few);
     }

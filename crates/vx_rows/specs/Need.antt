@@ -1,25 +1,28 @@
--- How many bytes of chunks a put of rows takes at most.
-use Rattle.std.specs.Prelude.{ℕ, ◌+◌, ◌*◌, ◌/◌, ◌==◌, nat_le, if◌then◌else◌, List, length}
+-- How many bytes of chunks a put of a batch's rows takes at most: those that so many rows need alone, and for texts
+-- one chunk for each 2,040 bytes of blocks and one more.
+use Rattle.std.specs.Prelude.{◌≡◌, ℕ, ◌+◌, ◌*◌, ◌/◌, ◌==◌, if◌then◌else◌, List, [], ◌∷◌}
 use Rattle.std.specs.List.{sum_by}
 use Rattle.std.specs.Int.{div_ceil}
-use Rattle.vx_arena.specs.Text.{cost_of}
-use Rattle.vx_value.specs.declared.value.Value.{Value}
-use Rattle.vx_value.specs.declared.value.Value.TheVariants as value
+use Rattle.vx_arena.specs.Chunks.{Chunks, held_by}
+use Rattle.vx_arena.specs.Part.{Pays}
+use Rattle.vx_records.specs.Record.{Record, RecordsModel, AddsRecord}
+use Rattle.vx_records.specs.Adding.{bytes_of}
 use Rattle.vx_vector.specs.Column.{Column}
+use Rattle.vx_vector.specs.Batch.{row_of}
 use Rattle.vx_rows.specs.declared.fields.Extra.{Extra}
 use Rattle.vx_rows.specs.Layout.{rows_a_chunk}
+use Rattle.vx_rows.specs.Texts.{text_cost}
 
 -- the chunks of so many rows
 abbrev pub row_need : List Extra → ℕ → ℕ
 row_need fields rows = 4096 * div_ceil rows (rows_a_chunk fields)
 
--- the bytes of the blocks of a value's text
-abbrev pub text_cost : Value → ℕ
-text_cost (value.Text t) = if nat_le (length t) 12 then 0 else cost_of (length t)
-text_cost _ = 0
+-- the bytes of the blocks of a column's texts, and of those of all columns
+abbrev pub column_cost : Column → ℕ
+column_cost column = sum_by text_cost column.values
 
 abbrev pub texts_cost : List Column → ℕ
-texts_cost columns = sum_by (λ (c : Column). sum_by text_cost c.values) columns
+texts_cost columns = sum_by column_cost columns
 
 -- the chunks of texts whose blocks have so many bytes
 abbrev pub text_need : ℕ → ℕ
@@ -27,3 +30,25 @@ text_need cost = if cost == 0 then 0 else 4096 * (cost / 2040 + 1)
 
 abbrev pub need_of : List Extra → List Column → ℕ → ℕ
 need_of fields columns rows = row_need fields rows + text_need (texts_cost columns)
+
+-- ---- what is put
+
+-- the two that hold chunks: rows' records and texts' blocks
+pub record Held : Type 0 where
+  pub records : RecordsModel
+  pub chunks : Chunks
+
+abbrev pub held_bytes : Held → ℕ
+held_bytes held = bytes_of held.records + held_by held.chunks
+
+-- a row of a batch was put: one record, and the blocks of its longer texts
+pub record PutsRow (columns : List Column) (at : ℕ) (before after : Held) : Type 0 where
+  pub number : ℕ
+  pub row : Record
+  pub adds : AddsRecord before.records after.records number row
+  pub pays : Pays before.chunks after.chunks (sum_by text_cost (row_of columns at))
+
+-- these rows of it, one after another
+abbrev pub PutsRows : List Column → List ℕ → Held → Held → Type 0
+PutsRows columns [] before after = after ≡ before
+PutsRows columns (at ∷ rest) before after = (middle : Held) × PutsRow columns at before middle × PutsRows columns rest middle after

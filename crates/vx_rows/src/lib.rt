@@ -10,6 +10,9 @@ mod container;
 mod field;
 mod fields;
 mod layout;
+mod need;
+#[cfg(test)]
+mod need_tests;
 mod nulls;
 mod slot;
 mod texts;

@@ -46,6 +46,7 @@ pub enum Lanes {
 impl Lanes {
     ghost use Rattle.vx_vector.specs.Lanes.{kind_of, rows_of, lane_at, lane_or_null, AreLanes};
 
+    /// The kind of the rows' values.
     pub fn kind(&self) -> Kind
         ensures { result ≡ kind_of self.now }
     {

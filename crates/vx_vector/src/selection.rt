@@ -53,6 +53,7 @@ impl Selection {
         })
     }
 
+    /// The places, in ascending order.
     #[inline(always)]
     pub fn places(&self) -> &[u32]
         ensures places { result.now ≡ self.now }

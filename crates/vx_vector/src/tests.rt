@@ -1,7 +1,7 @@
 ghost use Rattle.std.specs.Prelude.{◌≡◌, ◌<◌, ◌≤◌, length, All, IfOk, IsTrue};
 ghost use Rattle.vx_vector.specs.Column.{FitsKind};
 
-use crate::{Batch, Selection, Vector};
+use crate::{Batch, FINE, NULL, Selection, Texts, Vector};
 use std::alloc::{AllocError, Global};
 use std::test::Fail;
 use vx_value::{Kind, Txt, Value, ValueRef};
@@ -253,6 +253,17 @@ fn a_text_keeps_its_length(rt: HostRuntime) -> Result<(), Fail> {
     let wrapped = wrap(rt.alloc(), stored, &[3, 2, 1, 0], &mask)?;
     let counted = lengths(rt.alloc(), &wrapped.flatten(rt.alloc())?)?;
     assert_eq!(rt; counted.as_slice(), [65_535, 1, 12, 0].as_slice());
+    Ok(())
+}
+
+#[test]
+fn two_texts_make_one_row_after_others(rt: HostRuntime) -> Result<(), Fail> {
+    let mut texts = Texts::with_room(rt.alloc(), 1, 4)?;
+    texts.push(NULL, "ab".as_bytes())?;
+    texts.push_joined("cd".as_bytes(), "e".as_bytes())?;
+    assert_eq!(rt; texts.get(0), b"ab".as_slice());
+    assert_eq!(rt; texts.get(1), b"cde".as_slice());
+    assert_eq!(rt; texts.mark(1), FINE);
     Ok(())
 }
 

@@ -1,9 +1,10 @@
-ghost use Rattle.std.specs.Prelude.{◌≡◌, ◌<◌, [], ◌∷◌, ◌++◌, length, map, All, OnOk, OnErr, IfOk};
+ghost use Rattle.std.specs.Prelude.{◌≡◌, ◌<◌, ◌≤◌, ◌+◌, [], ◌∷◌, ◌++◌, length, map, All, OnOk, OnErr, IfOk};
 ghost use Rattle.vx_value.specs.Value.{IsText};
-ghost use Rattle.vx_vector.specs.Place.{settled_place};
+ghost use Rattle.vx_vector.specs.Place.{place_from, settled_place};
 ghost use Rattle.vx_vector.specs.Index.{IsIn, item_or};
 ghost use Rattle.vx_vector.specs.Lane.{text_row, text_at, settled_row};
 
+use crate::lanes::FINE;
 use crate::marks::settled;
 use std::alloc::{AllocError, Global};
 use std::marker::Model;
@@ -36,6 +37,7 @@ impl Model for Texts {
 }
 
 impl Texts {
+    /// No texts.
     pub fn new(alloc: Global) -> Texts
         ensures { result ≡ [] }
     {
@@ -45,6 +47,25 @@ impl Texts {
         }
     }
 
+    /// No texts, with room for so many rows and so many bytes of texts.
+    pub fn with_room(alloc: Global, rows: usize, bytes: usize) -> Result<Texts, AllocError>
+        ensures { IfOk result (λ t. t ≡ []) }
+    {
+        Ok(Texts {
+            bytes: Vec::with_capacity(alloc, bytes)?,
+            places: Vec::with_capacity(alloc, rows)?,
+        })
+    }
+
+    /// No texts, with room for as many rows as `a` has and for the bytes of both.
+    pub fn with_room_of(alloc: Global, a: &Texts, b: &Texts) -> Result<Texts, AllocError>
+        ensures { IfOk result (λ t. t ≡ []) }
+    {
+        let bytes = a.bytes.len().saturating_add(b.bytes.len());
+        Texts::with_room(alloc, a.len(), bytes)
+    }
+
+    /// The number of rows.
     #[inline(always)]
     pub fn len(&self) -> usize
         ensures { result ≡ length self.now }
@@ -78,8 +99,24 @@ impl Texts {
         ensures ok { OnOk result (self.new ≡ self.old ++ text_row mark text.now ∷ []) }
         ensures err { OnErr result (self.new ≡ self.old) }
     {
-        let (start, end) = append(&mut self.bytes, text)?;
-        self.places.push(Place { start, end, mark })?;
+        let place = place_behind(&self.bytes, text.len(), mark)?;
+        self.bytes.extend_from_slice(text)?;
+        self.places.push(place)?;
+        Ok(())
+    }
+
+    /// Adds a fine row of two texts in one. More than 4 GiB of texts count as out of memory.
+    pub fn push_joined(&mut self, a: &[u8], b: &[u8]) -> Result<(), AllocError>
+        requires left { IsText a.now }
+        requires right { IsText b.now }
+        requires short { length a.now + length b.now ≤ 65535 }
+        ensures ok { OnOk result (self.new ≡ self.old ++ text_row 0 (a.now ++ b.now) ∷ []) }
+        ensures err { OnErr result (self.new ≡ self.old) }
+    {
+        let place = place_behind(&self.bytes, a.len() + b.len(), FINE)?;
+        self.bytes.extend_from_slice(a)?;
+        self.bytes.extend_from_slice(b)?;
+        self.places.push(place)?;
         Ok(())
     }
 
@@ -98,7 +135,7 @@ impl Texts {
         requires { All (λ p. p < length self.now) places.now }
         ensures { IfOk result (λ t. t ≡ map (text_at self.now) places.now) }
     {
-        let mut picked = Texts::new(alloc);
+        let mut picked = Texts::with_room(alloc, places.len(), 0)?;
         for place in places {
             let row = *place as usize;
             picked.push(self.mark(row), self.get(row))?;
@@ -111,7 +148,7 @@ impl Texts {
         requires { All (IsIn (length self.now)) index.now }
         ensures { IfOk result (λ t. t ≡ map (item_or self.now (text_row 1 [])) index.now) }
     {
-        let mut picked = Texts::new(alloc);
+        let mut picked = Texts::with_room(alloc, index.len(), 0)?;
         for place in index {
             match *place {
                 Some(row) => picked.push(self.mark(row as usize), self.get(row as usize))?,
@@ -138,15 +175,17 @@ fn settle_places(places: &mut Vec<Place>)
     }
 }
 
-/// Where the bytes lie once they are appended.
-fn append(bytes: &mut Vec<u8>, more: &[u8]) -> Result<(u32, u32), AllocError>
-    ensures ok { OnOk result (bytes.new.items ≡ bytes.old.items ++ more.now) }
-    ensures at { IfOk result (λ at. (at.0 ≡ length bytes.old.items) × (at.1 ≡ length bytes.new.items)) }
-    ensures err { OnErr result (bytes.new.items ≡ bytes.old.items) }
+/// The place of a text that is put behind these bytes.
+#[inline(always)]
+fn place_behind(bytes: &Vec<u8>, len: usize, mark: u8) -> Result<Place, AllocError>
+    requires { len ≤ 65535 }
+    ensures { IfOk result (λ place. place ≡ place_from (length bytes.now.items) len mark) }
 {
-    let start = u32::try_from(bytes.len()).map_err(|_| AllocError)?;
-    let len = u32::try_from(more.len()).map_err(|_| AllocError)?;
-    let end = start.checked_add(len).ok_or(AllocError)?;
-    bytes.extend_from_slice(more)?;
-    Ok((start, end))
+    let start = bytes.len();
+    let end = u32::try_from(start + len).map_err(|_| AllocError)?;
+    Ok(Place {
+        start: start as u32,
+        end,
+        mark,
+    })
 }

@@ -79,6 +79,7 @@ impl Vector {
         })
     }
 
+    /// The kind of its values.
     pub fn kind(&self) -> Kind
         ensures { result ≡ self.now.kind }
     {

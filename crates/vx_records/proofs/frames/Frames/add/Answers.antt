@@ -1,7 +1,6 @@
-use Rattle.std.proofs.Common.{◌≡◌, ◌+◌, ◌^◌, ◌<◌, ◌≤◌, arith}
-use Rattle.vx_records.specs.Frame.{AreFrames}
+use Rattle.std.proofs.Common.{◌+◌, ◌^◌, ◌≤◌, arith}
 use Rattle.vx_records.proofs.Placing.{per_positive, seen_count}
-use Rattle.vx_records.proofs.Growing.{few_frames, HasRoom, has_room, adds_frame}
+use Rattle.vx_records.proofs.Growing.{few_frames, has_room, adds_frame}
 use Rattle.vx_records.proofs.frames.Frames.add.Goals as goal
 
 pub nonzero_div-number : goal.nonzero_div-number

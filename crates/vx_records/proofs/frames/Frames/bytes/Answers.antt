@@ -1,7 +1,4 @@
-use Rattle.std.proofs.Common.{ℕ, ◌≡◌, ◌+◌, ◌<◌, ◌≤◌, List, length, get_or, take, drop, arith, ap, ◌∙◌}
-use Rattle.vx_raw.specs.Region.{chunk_at}
-use Rattle.vx_raw.specs.declared.place.Place.{Place}
-use Rattle.vx_records.specs.Frame.{FramesModel}
+use Rattle.std.proofs.Common.{◌≡◌, ◌+◌, ◌<◌, ◌≤◌, length, arith, ap, ◌∙◌}
 use Rattle.vx_records.proofs.Placing.{seen_size, seen_below, per_positive, inside, at_fits, read_seen, read_long}
 use Rattle.vx_records.proofs.frames.Frames.bytes.Goals as goal
 

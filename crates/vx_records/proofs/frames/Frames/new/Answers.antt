@@ -1,6 +1,6 @@
-use Rattle.std.proofs.Common.{[], sym, subst, refl, ap, ◌∙◌}
+use Rattle.std.proofs.Common.{ap, ◌∙◌}
 use Rattle.vx_raw.specs.Region.{RegionModel}
-use Rattle.vx_records.specs.Frame.{AreFrames, seen_in, per_chunk}
+use Rattle.vx_records.specs.Frame.{seen_in}
 use Rattle.vx_records.proofs.Growing.{none_seen, none_are, per_is}
 use Rattle.vx_records.proofs.frames.Frames.new.Goals as goal
 

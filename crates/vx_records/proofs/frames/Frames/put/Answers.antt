@@ -1,6 +1,4 @@
-use Rattle.std.proofs.Common.{ℕ, ◌≡◌, ◌+◌, ◌<◌, ◌≤◌, length, arith, ap, ◌∙◌}
-use Rattle.vx_raw.specs.Region.{RegionModel, IsInside, after_write}
-use Rattle.vx_records.specs.Frame.{FramesModel}
+use Rattle.std.proofs.Common.{◌≡◌, ◌+◌, ◌<◌, ◌≤◌, length, arith}
 use Rattle.vx_records.proofs.Placing.{seen_size, seen_below, per_positive, inside, at_fits, wrote_seen}
 use Rattle.vx_records.proofs.frames.Frames.put.Goals as goal
 

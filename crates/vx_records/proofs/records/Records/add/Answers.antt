@@ -1,4 +1,4 @@
-use Rattle.std.proofs.Common.{◌≡◌, ◌-◌, ℕ, sym, subst}
+use Rattle.std.proofs.Common.{◌-◌, ℕ, sym, subst}
 use Rattle.vx_records.specs.Head.{IsListed}
 use Rattle.vx_records.specs.Record.{fresh}
 use Rattle.vx_records.proofs.Listing.{starts}

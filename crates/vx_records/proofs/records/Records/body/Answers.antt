@@ -1,4 +1,4 @@
-use Rattle.std.proofs.Common.{◌≡◌, ◌-◌, List, take, drop, ℕ, ap, ◌∙◌}
+use Rattle.std.proofs.Common.{◌-◌, take, drop, ℕ, ap, ◌∙◌}
 use Rattle.vx_records.specs.Frame.{frame_at}
 use Rattle.vx_records.proofs.Editing.{there, body_read, body_len}
 use Rattle.vx_records.proofs.records.Records.body.Goals as goal

@@ -1,6 +1,3 @@
-use Rattle.std.proofs.Common.{◌∙◌, ◌≡◌, ap, ℕ, ◌-◌, []}
-use Rattle.vx_records.specs.Record.{RecordsModel}
-use Rattle.vx_records.specs.Head.{records_of}
 use Rattle.vx_records.proofs.Editing.{cleared}
 use Rattle.vx_records.proofs.records.Records.clear.Goals as goal
 

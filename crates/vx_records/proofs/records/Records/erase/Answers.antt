@@ -1,4 +1,4 @@
-use Rattle.std.proofs.Common.{◌+◌, ◌^◌, ◌<◌, ◌≤◌, length, arith}
+use Rattle.std.proofs.Common.{◌^◌, ◌<◌, ◌≤◌, length, arith}
 use Rattle.vx_records.proofs.Editing.{there, erases}
 use Rattle.vx_records.proofs.records.Records.erase.Goals as goal
 

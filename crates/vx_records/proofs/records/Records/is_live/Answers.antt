@@ -1,4 +1,4 @@
-use Rattle.std.proofs.Common.{◌≡◌, ◌<◌, ◌≤◌, ℕ, ◌%◌, eqb, length, ap, ◌∙◌, arith}
+use Rattle.std.proofs.Common.{ℕ, ◌%◌, eqb, ap, ◌∙◌, arith}
 use Rattle.vx_records.proofs.Editing.{none_live, live_read}
 use Rattle.vx_records.proofs.records.Records.is_live.Goals as goal
 

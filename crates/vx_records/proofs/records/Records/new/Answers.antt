@@ -1,6 +1,5 @@
 use Rattle.std.proofs.Common.{◌∙◌, ◌≡◌, ap, arith, ℕ, ◌+◌, ◌-◌, []}
 use Rattle.vx_records.specs.Record.{RecordsModel}
-use Rattle.vx_records.specs.Frame.{FramesModel}
 use Rattle.vx_records.specs.Head.{records_of}
 use Rattle.vx_records.proofs.Editing.{none_spelled}
 use Rattle.vx_records.proofs.records.Records.new.Goals as goal

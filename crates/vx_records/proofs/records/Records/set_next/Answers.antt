@@ -1,4 +1,4 @@
-use Rattle.std.proofs.Common.{◌∙◌, ap, ℕ, ◌<◌, ◌^◌, subst, w32, arith}
+use Rattle.std.proofs.Common.{◌∙◌, ap, w32}
 use Rattle.std.specs.Int.{to_le_bytes}
 use Rattle.vx_records.proofs.Editing.{there, still_live, sets_next, link_fits}
 use Rattle.vx_records.proofs.records.Records.set_next.Goals as goal

@@ -1,4 +1,4 @@
-use Rattle.std.proofs.Common.{◌+◌, ◌^◌, ◌<◌, ◌≤◌, length, arith}
+use Rattle.std.proofs.Common.{◌+◌, ◌^◌, ◌<◌, length, arith}
 use Rattle.vx_records.proofs.Editing.{there, still_live, writes, body_fits, at_fits}
 use Rattle.vx_records.proofs.records.Records.write.Goals as goal
 

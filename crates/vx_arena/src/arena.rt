@@ -50,6 +50,7 @@ impl Arena {
     pub fn held(&self) -> u64
         ensures held { result ≡ held_by self.now.chunks }
         ensures whole { result ≡ 4096 * length self.now.chunks }
+        ensures most { result ≤ 2 ^ 34 }
     {
         self.blocks.held()
     }

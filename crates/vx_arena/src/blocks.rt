@@ -59,7 +59,8 @@ impl Blocks {
 
     /// How many bytes its chunks have together.
     pub(crate) fn held(&self) -> u64
-        ensures { result ≡ held_by self.now }
+        ensures is { result ≡ held_by self.now }
+        ensures most { result ≤ 2 ^ 34 }
     {
         self.region.held()
     }

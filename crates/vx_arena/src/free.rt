@@ -45,6 +45,7 @@ impl FreeBlocks {
     pub(crate) fn held(&self) -> u64
         ensures held { result ≡ held_by self.now }
         ensures whole { result ≡ 4096 * length self.now }
+        ensures most { result ≤ 2 ^ 34 }
     {
         let _ = &self.heads;
         self.blocks.held()

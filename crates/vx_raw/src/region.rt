@@ -94,7 +94,8 @@ impl Region {
     /// How many bytes its chunks have together.
     #[inline]
     pub fn held(&self) -> u64
-        ensures { result ≡ bytes_held self.now }
+        ensures is { result ≡ bytes_held self.now }
+        ensures most { result ≤ 2 ^ 34 }
     {
         self.held
     }

@@ -12,15 +12,15 @@ overflow_add-self c =
     omega (arith, few)
 
 pub invariant_of-self-2 : goal.invariant_of-self-2
-invariant_of-self-2 c = (has_room c.self.inside.size c.self.inside.per c.self.inside.region c.self.inside.count c.from.result c.from-2.result c.held.result c.grow_where.new.region c.self.invariant c.from.ensures c.from-2.ensures c.held.ensures c.in_ok-grow_where.ensures.ok c.in_ok-grow_where.ensures.few).are
+invariant_of-self-2 c = (has_room c.self.inside.size c.self.inside.per c.self.inside.region c.self.inside.count c.from.result c.from-2.result c.held.result c.grow_where.new.region c.self.invariant c.from.ensures c.from-2.ensures c.held.ensures.is c.in_ok-grow_where.ensures.ok c.in_ok-grow_where.ensures.few).are
 
 pub returns-clause-number : goal.returns-clause-number
 returns-clause-number c = seen_count c.self.inside.size c.self.inside.region c.self.inside.count c.args.self.now c.self.view_is
 
 pub returns-clause-ok : goal.returns-clause-ok
-returns-clause-ok c = adds_frame c.self.inside.size c.self.inside.per c.self.inside.region c.self.inside.count c.grow_where.new.region c.args.self.now c.self.view_is (has_room c.self.inside.size c.self.inside.per c.self.inside.region c.self.inside.count c.from.result c.from-2.result c.held.result c.grow_where.new.region c.self.invariant c.from.ensures c.from-2.ensures c.held.ensures c.in_ok-grow_where.ensures.ok c.in_ok-grow_where.ensures.few)
+returns-clause-ok c = adds_frame c.self.inside.size c.self.inside.per c.self.inside.region c.self.inside.count c.grow_where.new.region c.args.self.now c.self.view_is (has_room c.self.inside.size c.self.inside.per c.self.inside.region c.self.inside.count c.from.result c.from-2.result c.held.result c.grow_where.new.region c.self.invariant c.from.ensures c.from-2.ensures c.held.ensures.is c.in_ok-grow_where.ensures.ok c.in_ok-grow_where.ensures.few)
 
 pub returns-clause-few : goal.returns-clause-few
 returns-clause-few c =
-    let few : c.self.inside.count + 1 ≤ 2 ^ 31 = few_frames c.self.inside.size c.self.inside.per c.grow_where.new.region (c.self.inside.count + 1) (has_room c.self.inside.size c.self.inside.per c.self.inside.region c.self.inside.count c.from.result c.from-2.result c.held.result c.grow_where.new.region c.self.invariant c.from.ensures c.from-2.ensures c.held.ensures c.in_ok-grow_where.ensures.ok c.in_ok-grow_where.ensures.few).are in
+    let few : c.self.inside.count + 1 ≤ 2 ^ 31 = few_frames c.self.inside.size c.self.inside.per c.grow_where.new.region (c.self.inside.count + 1) (has_room c.self.inside.size c.self.inside.per c.self.inside.region c.self.inside.count c.from.result c.from-2.result c.held.result c.grow_where.new.region c.self.invariant c.from.ensures c.from-2.ensures c.held.ensures.is c.in_ok-grow_where.ensures.ok c.in_ok-grow_where.ensures.few).are in
     omega (arith, few)

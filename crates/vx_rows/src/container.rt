@@ -7,6 +7,7 @@ ghost use Rattle.vx_arena.specs.Text.{more};
 ghost use Rattle.vx_records.specs.Record.{record_in};
 ghost use Rattle.vx_vector.specs.Batch.{kinds_of, row_of};
 ghost use Rattle.vx_rows.specs.Layout.{fields_of, row_len, rows_a_chunk};
+ghost use Rattle.vx_rows.specs.Need.{need_of};
 ghost use Rattle.vx_rows.specs.Texts.{blocks_of_value, text_cost};
 ghost use Rattle.vx_value.specs.Value.{owned, IsLawful};
 ghost use Rattle.vx_rows.specs.Container.{AddsRow, Changes, Gives, HasBytes, IsBytes, TakesValue, blocks_of_held, with_held, IsSlot, bytes, cell, held_at, key_values, IsLive, Takes, TakesBack, blocks_of_row, live, live_numbers, new_row, with_row};
@@ -14,6 +15,7 @@ ghost use Rattle.vx_rows.specs.Container.{AddsRow, Changes, Gives, HasBytes, IsB
 use crate::body::{bytes_at, empty_body, field, put};
 use crate::fields::Extra;
 use crate::layout::Layout;
+use crate::need;
 use crate::texts::{cells, fill, give, is_stored, release, store, value};
 use std::alloc::{AllocError, Global};
 use std::marker::Model;
@@ -113,6 +115,23 @@ impl RowContainer {
     {
         self.records.clear();
         self.arena.clear();
+    }
+
+    /// How many bytes its chunks have together, of rows and of texts.
+    pub fn bytes_held(&self) -> u64
+        ensures { result ≡ 4096 * div_ceil (length self.now.rows) (rows_a_chunk (fields_of self.now.kinds self.now.extras)) + held_by self.now.arena.chunks }
+    {
+        let (_columns, _numbers) = (&self.columns, self.records.numbers());
+        self.records.held() + self.arena.held()
+    }
+
+    /// How many bytes of chunks a put of all rows of a batch takes at most.
+    pub fn need_of(&self, batch: &Batch) -> u64
+        requires { kinds_of batch.now.columns.items ≡ self.now.kinds }
+        ensures { result ≡ need_of (fields_of self.now.kinds self.now.extras) batch.now.columns.items batch.now.rows }
+    {
+        let _columns = &self.columns;
+        need::need_of(&self.layout, batch)
     }
 
     /// Its texts.

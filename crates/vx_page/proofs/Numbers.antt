@@ -1,50 +1,51 @@
 -- Numbers of whole bytes and back.
-use Rattle.std.proofs.Common.{◌≡◌, ℕ, ◌+◌, ◌*◌, ◌/◌, ◌%◌, ◌^◌, ◌<◌, List, [], ◌∷◌, ◌++◌, length, take, drop, refl, sym, ap, ap₂, ◌∙◌, arith, take-append-drop, length-take, length-drop, get_or-take, get_or-drop, inl, inr}
+use Rattle.std.proofs.Common.{◌≡◌, ℕ, ◌+◌, ◌*◌, ◌/◌, ◌%◌, ◌^◌, ◌<◌, List, [], ◌∷◌, ◌++◌, length, take, drop, refl, sym, ap, ap₂, ◌∙◌, arith, take-append-drop, length-take, length-drop, get_or, get_or-take, get_or-drop, inl, inr}
 use Rattle.std.specs.Int.{Width, w16, w32, w64, w128, byte_len, from_be_bytes, to_be_bytes}
 use Rattle.std.proofs.lemmas.Nat.{be_bytes_2, be_bytes_4, be_bytes_8, from_be_bytes-to_be_bytes_2, from_be_bytes-to_be_bytes_4, from_be_bytes-to_be_bytes_8}
-use Rattle.vx_page.proofs.Turns.{IsBytes}
+use Rattle.std.proofs.lemmas.List.Elements.{All-get_or, All-from_get_or, All-take, All-drop}
+use Rattle.vx_page.proofs.Turns.{IsByte, AreBytes}
 use Rattle.std.proofs.lemmas.Bool.{cases_lt}
 use Rattle.std.proofs.lemmas.List.{take_at, drop_at, get_or_past}
 use native.Mathlib.Nat as nat
 
-pub IsBytes-drop : (n : ℕ) (bytes : List ℕ) → IsBytes bytes → IsBytes (drop n bytes)
-IsBytes-drop n bytes h i = rw get_or-drop (h (n + i))
+-- what stands at a place is a byte, also behind the end, where zeros are read
+pub byte_at : (bytes : List ℕ) → AreBytes bytes → (i : ℕ) → get_or bytes i 0 < 256
+byte_at bytes fits i = elim (cases_lt i (length bytes)) as (λ _. get_or bytes i 0 < 256) [
+  | inl inside ↦ All-get_or IsByte bytes i 0 inside fits
+  | inr past ↦ rw (get_or_past bytes i 0 past) (omega arith)
+]
 
-pub IsBytes-take : (n : ℕ) (bytes : List ℕ) → IsBytes bytes → IsBytes (take n bytes)
-IsBytes-take n bytes h i =
-    elim (cases_lt i n) [
-      | inl lt ↦ rw (get_or-take n bytes i 0 lt) (h i)
-      | inr le ↦ rw (get_or_past (take n bytes) i 0 (omega (arith, length-take n bytes))) (omega arith)
-    ]
+pub bytes_from : (bytes : List ℕ) → ((i : ℕ) → get_or bytes i 0 < 256) → AreBytes bytes
+bytes_from bytes at = All-from_get_or IsByte bytes 0 (λ i inside. at i)
 
-pub record IsWide (w : Width) (limit : ℕ) : Type 0 where
-  pub len : (n : ℕ) → length (to_be_bytes w n) ≡ byte_len w
-  pub back : (bytes : List ℕ) → length bytes ≡ byte_len w → IsBytes bytes → to_be_bytes w (from_be_bytes w bytes) ≡ bytes
-  pub again : (n : ℕ) → n < limit → from_be_bytes w (to_be_bytes w n) ≡ n
-  pub below : (bytes : List ℕ) → IsBytes bytes → from_be_bytes w bytes < limit
+-- numbers below the limit and as many bytes as the width has name each other
+pub record Reversible (w : Width) (limit : ℕ) : Type 0 where
+  pub size : (n : ℕ) → length (to_be_bytes w n) ≡ byte_len w
+  pub of_number : (n : ℕ) → n < limit → from_be_bytes w (to_be_bytes w n) ≡ n
+  pub of_bytes : (bytes : List ℕ) → AreBytes bytes → length bytes ≡ byte_len w → (from_be_bytes w bytes < limit) × (to_be_bytes w (from_be_bytes w bytes) ≡ bytes)
 
-pub wide16 : IsWide w16 (2 ^ 16)
-wide16 = record {
-  len = λ n. refl;
-  back = λ bytes len fits. be_bytes_2 bytes _ len fits refl;
-  again = λ n lt. from_be_bytes-to_be_bytes_2 n lt;
-  below = λ bytes fits. omega (arith, fits 0, fits 1);
+pub reversible_16 : Reversible w16 (2 ^ 16)
+reversible_16 = record {
+  size = λ n. refl;
+  of_number = from_be_bytes-to_be_bytes_2;
+  of_bytes = λ bytes fits long. let at = byte_at bytes fits in (omega (arith, at 0, at 1), be_bytes_2 bytes (from_be_bytes w16 bytes) long at refl);
 }
 
-pub wide32 : IsWide w32 (2 ^ 32)
-wide32 = record {
-  len = λ n. refl;
-  back = λ bytes len fits. be_bytes_4 bytes _ len fits refl;
-  again = λ n lt. from_be_bytes-to_be_bytes_4 n lt;
-  below = λ bytes fits. omega (arith, fits 0, fits 1, fits 2, fits 3);
+pub reversible_32 : Reversible w32 (2 ^ 32)
+reversible_32 = record {
+  size = λ n. refl;
+  of_number = from_be_bytes-to_be_bytes_4;
+  of_bytes = λ bytes fits long. let at = byte_at bytes fits in (omega (arith, at 0, at 1, at 2, at 3), be_bytes_4 bytes (from_be_bytes w32 bytes) long at refl);
 }
 
-pub wide64 : IsWide w64 (2 ^ 64)
-wide64 = record {
-  len = λ n. refl;
-  back = λ bytes len fits. be_bytes_8 bytes _ len fits refl;
-  again = λ n lt. from_be_bytes-to_be_bytes_8 n lt;
-  below = λ bytes fits. omega (arith, fits 0, fits 1, fits 2, fits 3, fits 4, fits 5, fits 6, fits 7);
+pub reversible_64 : Reversible w64 (2 ^ 64)
+reversible_64 = record {
+  size = λ n. refl;
+  of_number = from_be_bytes-to_be_bytes_8;
+  of_bytes = λ bytes fits long. let at = byte_at bytes fits in (
+    omega (arith, at 0, at 1, at 2, at 3, at 4, at 5, at 6, at 7),
+    be_bytes_8 bytes (from_be_bytes w64 bytes) long at refl,
+  );
 }
 
 -- ---- 16 bytes are two times eight
@@ -80,14 +81,15 @@ halves high low p =
     let l0 : (high * 2 ^ 64 + low) % 256 ≡ low % 256 = omega arith in
     λ i. h7 i ∷ h6 i ∷ h5 i ∷ h4 i ∷ h3 i ∷ h2 i ∷ h1 i ∷ h0 i ∷ l7 i ∷ l6 i ∷ l5 i ∷ l4 i ∷ l3 i ∷ l2 i ∷ l1 i ∷ l0 i ∷ []
 
-back128 : (bytes : List ℕ) → length bytes ≡ 16 → IsBytes bytes → to_be_bytes w128 (from_be_bytes w128 bytes) ≡ bytes
-back128 bytes len fits =
+both128 : (bytes : List ℕ) → AreBytes bytes → length bytes ≡ 16 → (from_be_bytes w128 bytes < 2 ^ 128) × (to_be_bytes w128 (from_be_bytes w128 bytes) ≡ bytes)
+both128 bytes fits long =
     let high = take 8 bytes in
     let low = drop 8 bytes in
-    let below : from_be_bytes w64 low < 2 ^ 64 = wide64.below low (IsBytes-drop 8 bytes fits) in
-    let front : to_be_bytes w64 (from_be_bytes w64 high) ≡ high = wide64.back high (omega (arith, length-take 8 bytes)) (IsBytes-take 8 bytes fits) in
-    let rest : to_be_bytes w64 (from_be_bytes w64 low) ≡ low = wide64.back low (omega (arith, length-drop 8 bytes)) (IsBytes-drop 8 bytes fits) in
-    ap (to_be_bytes w128) (joined bytes) ∙ halves (from_be_bytes w64 high) (from_be_bytes w64 low) below ∙ ap₂ (λ (a b : List ℕ). a ++ b) front rest ∙ take-append-drop 8 bytes
+    let front = reversible_64.of_bytes high (All-take IsByte 8 bytes fits) (omega (arith, length-take 8 bytes, long)) in
+    let rest = reversible_64.of_bytes low (All-drop IsByte 8 bytes fits) (omega (arith, length-drop 8 bytes, long)) in (
+      omega (arith, joined bytes, front.0, rest.0),
+      ap (to_be_bytes w128) (joined bytes) ∙ halves (from_be_bytes w64 high) (from_be_bytes w64 low) rest.0 ∙ ap₂ (λ (a b : List ℕ). a ++ b) front.1 rest.1 ∙ take-append-drop 8 bytes,
+    )
 
 again128 : (n : ℕ) → n < 2 ^ 128 → from_be_bytes w128 (to_be_bytes w128 n) ≡ n
 again128 n lt =
@@ -100,13 +102,8 @@ again128 n lt =
     let front : take 8 (to_be_bytes w64 high ++ to_be_bytes w64 low) ≡ to_be_bytes w64 high = take_at (to_be_bytes w64 high) (to_be_bytes w64 low) 8 refl in
     let rest : drop 8 (to_be_bytes w64 high ++ to_be_bytes w64 low) ≡ to_be_bytes w64 low = drop_at (to_be_bytes w64 high) (to_be_bytes w64 low) 8 refl in
     ap (from_be_bytes w128) parts ∙ joined (to_be_bytes w64 high ++ to_be_bytes w64 low)
-    ∙ ap₂ (λ (a b : ℕ). a * 2 ^ 64 + b) (ap (from_be_bytes w64) front ∙ wide64.again high above) (ap (from_be_bytes w64) rest ∙ wide64.again low below)
+    ∙ ap₂ (λ (a b : ℕ). a * 2 ^ 64 + b) (ap (from_be_bytes w64) front ∙ reversible_64.of_number high above) (ap (from_be_bytes w64) rest ∙ reversible_64.of_number low below)
     ∙ sym split
 
-pub wide128 : IsWide w128 (2 ^ 128)
-wide128 = record {
-  len = λ n. refl;
-  back = back128;
-  again = again128;
-  below = λ bytes fits. omega (arith, joined bytes, wide64.below (take 8 bytes) (IsBytes-take 8 bytes fits), wide64.below (drop 8 bytes) (IsBytes-drop 8 bytes fits));
-}
+pub reversible_128 : Reversible w128 (2 ^ 128)
+reversible_128 = record { size = λ n. refl; of_number = again128; of_bytes = both128 }

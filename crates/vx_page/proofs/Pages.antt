@@ -10,16 +10,16 @@ use Rattle.vx_page.specs.declared.cell.Cell.{Cell}
 use Rattle.vx_page.specs.declared.error.PageError.{PageError}
 use Rattle.vx_page.specs.Page.{Cells, cell_bytes, row_bytes, body, page, Pairs, HasShape, IsLawfulCell, IsPageOf}
 use Rattle.vx_page.specs.Reading.{◌>>=◌, Gives, place, number_at, cell_at, body_cell_at, row_at, rows_at, rows_of}
-use Rattle.vx_page.proofs.Turns.{IsBytes, bind_ok, ok_is, Takes, turns_take, turns_again, pairs_replicate, replicate_pairs}
-use Rattle.vx_page.proofs.Numbers.{wide32}
+use Rattle.vx_page.proofs.Turns.{AreBytes, step_ok, got_is, TakesOff, turns_take, turns_again, pairs_replicate, replicate_pairs}
+use Rattle.vx_page.proofs.Numbers.{reversible_32}
 use Rattle.vx_page.proofs.Fields.{guard_ok, unless_ok, number_takes, number_again, IsCellOf, cell_takes, cell_again}
 
 -- ---- cells and rows of a body
 
-body_cell_takes : (whole end : ℕ) (slot : Slot) (bytes : List ℕ) (y : Cell × List ℕ) → IsBytes bytes → body_cell_at whole end slot bytes ≡ Ok y → Takes bytes (cell_bytes y.0) y.1 × IsCellOf slot y.0
+body_cell_takes : (whole end : ℕ) (slot : Slot) (bytes : List ℕ) (y : Cell × List ℕ) → AreBytes bytes → body_cell_at whole end slot bytes ≡ Ok y → TakesOff bytes (cell_bytes y.0) y.1 × IsCellOf slot y.0
 unfolding body_cell_at
 body_cell_takes whole end slot bytes y fits e =
-    let a = bind_ok (cell_at slot whole bytes) (λ c. cond (ltb end (place whole c.1)) (Err (place whole bytes)) (Ok c)) y e in
+    let a = step_ok (cell_at slot whole bytes) (λ c. cond (ltb end (place whole c.1)) (Err (place whole bytes)) (Ok c)) y e in
     let g = guard_ok (ltb end (place whole a.0.1)) (place whole bytes) (Err (place whole bytes)) (Ok a.0) y refl a.2 in
     cell_takes slot whole bytes y fits (a.1 ∙ g.1)
 
@@ -33,7 +33,7 @@ body_cell_again whole end le slot c rest is =
 abbrev IsRowOf : List Slot → Cells → Type 0
 IsRowOf shape row = Pairs IsCellOf shape row
 
-row_takes : (whole end : ℕ) (shape : List Slot) (bytes : List ℕ) (y : Cells × List ℕ) → IsBytes bytes → row_at whole end shape bytes ≡ Ok y → Takes bytes (row_bytes y.0) y.1 × IsRowOf shape y.0
+row_takes : (whole end : ℕ) (shape : List Slot) (bytes : List ℕ) (y : Cells × List ℕ) → AreBytes bytes → row_at whole end shape bytes ≡ Ok y → TakesOff bytes (row_bytes y.0) y.1 × IsRowOf shape y.0
 row_takes whole end shape bytes y fits e = turns_take (body_cell_at whole end) cell_bytes IsCellOf (body_cell_takes whole end) shape bytes y fits e
 
 row_again : (whole end : ℕ) → whole ≤ end → (shape : List Slot) (row : Cells) (rest : List ℕ) → IsRowOf shape row → row_at whole end shape (row_bytes row ++ rest) ≡ Ok (row, rest)
@@ -83,21 +83,21 @@ from_parts shape bytes rows read count size r0 r1 r2 p0 p1 p2 lt0 lt1 len all no
     }
 
 -- bytes that read as rows are their page
-pub page_takes : (shape : List Slot) (bytes : List ℕ) (rows : List Cells) → IsBytes bytes → rows_of shape bytes ≡ Ok rows → IsPageOf shape rows bytes
+pub page_takes : (shape : List Slot) (bytes : List ℕ) (rows : List Cells) → AreBytes bytes → rows_of shape bytes ≡ Ok rows → IsPageOf shape rows bytes
 unfolding rows_of
 page_takes shape bytes rows fits e =
     let whole = length bytes in
     let Rest : ℕ → List Cells × List ℕ → Result (List Cells) ℕ = λ size rows. cond (eqb (length rows.1) 0 && eqb (8 + size) whole) (Ok rows.0) (Err (place whole rows.1)) in
-    let a = bind_ok (number_at w32 whole bytes) (λ count. number_at w32 whole count.1 >>= λ size. rows_at whole (8 + size.0) shape count.0 size.1 >>= λ rows. Rest size.0 rows) rows e in
-    let b = bind_ok (number_at w32 whole a.0.1) (λ size. rows_at whole (8 + size.0) shape a.0.0 size.1 >>= λ rows. Rest size.0 rows) rows a.2 in
-    let d = bind_ok (rows_at whole (8 + b.0.0) shape a.0.0 b.0.1) (λ rows. Rest b.0.0 rows) rows b.2 in
+    let a = step_ok (number_at w32 whole bytes) (λ count. number_at w32 whole count.1 >>= λ size. rows_at whole (8 + size.0) shape count.0 size.1 >>= λ rows. Rest size.0 rows) rows e in
+    let b = step_ok (number_at w32 whole a.0.1) (λ size. rows_at whole (8 + size.0) shape a.0.0 size.1 >>= λ rows. Rest size.0 rows) rows a.2 in
+    let d = step_ok (rows_at whole (8 + b.0.0) shape a.0.0 b.0.1) (λ rows. Rest b.0.0 rows) rows b.2 in
     let g = unless_ok (eqb (length d.0.1) 0 && eqb (8 + b.0.0) whole) (place whole d.0.1) (Ok d.0.0) (Err (place whole d.0.1)) rows refl d.2 in
     let ends = ended (length d.0.1) whole (8 + b.0.0) g.0 in
-    let first = number_takes w32 (2 ^ 32) wide32 whole bytes a.0.0 a.0.1 fits a.1 in
-    let second = number_takes w32 (2 ^ 32) wide32 whole a.0.1 b.0.0 b.0.1 first.0.rest_fits b.1 in
-    let third = turns_take {A = ℕ} (λ turn. row_at whole (8 + b.0.0) shape) row_bytes (λ turn row. IsRowOf shape row) (λ turn. row_takes whole (8 + b.0.0) shape) (replicate a.0.0 0) b.0.1 d.0 second.0.rest_fits d.1 in
+    let first = number_takes w32 (2 ^ 32) reversible_32 whole bytes a.0.0 a.0.1 fits a.1 in
+    let second = number_takes w32 (2 ^ 32) reversible_32 whole a.0.1 b.0.0 b.0.1 first.0.left_fits b.1 in
+    let third = turns_take {A = ℕ} (λ turn. row_at whole (8 + b.0.0) shape) row_bytes (λ turn row. IsRowOf shape row) (λ turn. row_takes whole (8 + b.0.0) shape) (replicate a.0.0 0) b.0.1 d.0 second.0.left_fits d.1 in
     let counted = replicate_pairs (IsRowOf shape) (replicate a.0.0 0) d.0.0 third.1 in
-    from_parts shape bytes rows d.0.0 a.0.0 b.0.0 a.0.1 b.0.1 d.0.1 first.0.parts second.0.parts third.0.parts first.1 second.1 (counted.0 ∙ length-replicate {A = ℕ} a.0.0 0) counted.1 ends.0 ends.1 (ok_is d.0.0 rows g.1)
+    from_parts shape bytes rows d.0.0 a.0.0 b.0.0 a.0.1 b.0.1 d.0.1 first.0.parts second.0.parts third.0.parts first.1 second.1 (counted.0 ∙ length-replicate {A = ℕ} a.0.0 0) counted.1 ends.0 ends.1 (got_is d.0.0 rows g.1)
 
 -- ---- what was written
 
@@ -113,8 +113,8 @@ page_again shape rows bytes of =
     let size = length (body rows) in
     let long : length bytes ≡ 8 + size = ap length of.is ∙ omega arith in
     let whole = length bytes in
-    let first : number_at w32 whole bytes ≡ Ok (length rows, to_be_bytes w32 size ++ body rows) = ap (number_at w32 whole) of.is ∙ number_again w32 (2 ^ 32) wide32 whole (length rows) (to_be_bytes w32 size ++ body rows) of.fits.count in
-    let second : number_at w32 whole (to_be_bytes w32 size ++ body rows) ≡ Ok (size, body rows) = number_again w32 (2 ^ 32) wide32 whole size (body rows) of.fits.length in
+    let first : number_at w32 whole bytes ≡ Ok (length rows, to_be_bytes w32 size ++ body rows) = ap (number_at w32 whole) of.is ∙ number_again w32 (2 ^ 32) reversible_32 whole (length rows) (to_be_bytes w32 size ++ body rows) of.fits.count in
+    let second : number_at w32 whole (to_be_bytes w32 size ++ body rows) ≡ Ok (size, body rows) = number_again w32 (2 ^ 32) reversible_32 whole size (body rows) of.fits.length in
     let all : All (IsRowOf shape) rows = λ k d lt. row_of shape _ (of.shaped k d lt) (of.lawful k d lt) in
     let pairs = pairs_replicate (IsRowOf shape) 0 rows all in
     let le : whole ≤ 8 + size = omega (arith, long) in
@@ -124,6 +124,6 @@ page_again shape rows bytes of =
 
 -- ---- the clauses
 
-pub found : (shape : List Slot) (bytes : List ℕ) (r : Result (Vec Cells Global) PageError) → IsBytes bytes → Gives (λ v. v.items) r (rows_of shape bytes) → IfOk r (λ v. IsPageOf shape v.items bytes)
+pub found : (shape : List Slot) (bytes : List ℕ) (r : Result (Vec Cells Global) PageError) → AreBytes bytes → Gives (λ v. v.items) r (rows_of shape bytes) → IfOk r (λ v. IsPageOf shape v.items bytes)
 found shape bytes (Ok v) fits given = page_takes shape bytes v.items fits given
 found shape bytes (Err e) fits given = tt

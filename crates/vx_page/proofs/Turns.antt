@@ -10,76 +10,83 @@ use Rattle.vx_page.specs.Reading.{Read, ◌>>=◌, Fails, in_turn}
 
 -- ---- a loop
 
--- what was read before, and what is still read
-abbrev pub with_front : {B : Type 0} → List B → Read (List B) → Read (List B)
-with_front front read = read >>= λ x. Ok (front ++ x.0, x.1)
+-- what is still read, behind what was read before
+abbrev pub behind : {B : Type 0} → List B → Read (List B) → Read (List B)
+behind before still = still >>= λ more. Ok (before ++ more.0, more.1)
 
-regroup : {B : Type 0} (front : List B) (y : B) (read : Read (List B)) → with_front front (read >>= λ x. Ok (y ∷ x.0, x.1)) ≡ with_front (front ++ y ∷ []) read
+regroup : {B : Type 0} (front : List B) (y : B) (read : Read (List B)) → behind front (read >>= λ x. Ok (y ∷ x.0, x.1)) ≡ behind (front ++ y ∷ []) read
 regroup {B = B} front y (Ok x) = ap (λ (ys : List B). Ok (ys, x.1)) (simp append_assoc)
 regroup front y (Err at) = refl
 
 pub goes_on : {A B : Type 0} (read : A → List ℕ → Read B) (front : List B) (xs : List A) (i : ℕ) (x : A) (bytes : List ℕ) (y : B) (after : List ℕ) (total : Read (List B)) → i < length xs → get_or xs i x ≡ x
-    → read x bytes ≡ Ok (y, after) → with_front front (in_turn read (drop i xs) bytes) ≡ total → with_front (front ++ y ∷ []) (in_turn read (drop (i + 1) xs) after) ≡ total
+    → read x bytes ≡ Ok (y, after) → behind front (in_turn read (drop i xs) bytes) ≡ total → behind (front ++ y ∷ []) (in_turn read (drop (i + 1) xs) after) ≡ total
 unfolding in_turn
 goes_on read front xs i x bytes y after total lt here h so_far =
-    let k : with_front front (in_turn read (drop i xs) bytes) ≡ with_front front (in_turn read (get_or xs i x ∷ drop (i + 1) xs) bytes) = at_drop_more (λ rest. with_front front (in_turn read rest bytes)) xs i x lt in
-    let one : with_front front (in_turn read (get_or xs i x ∷ drop (i + 1) xs) bytes) ≡ with_front (front ++ y ∷ []) (in_turn read (drop (i + 1) xs) after) = rw (here, h) (regroup front y (in_turn read (drop (i + 1) xs) after)) in
+    let k : behind front (in_turn read (drop i xs) bytes) ≡ behind front (in_turn read (get_or xs i x ∷ drop (i + 1) xs) bytes) = at_drop_more (λ rest. behind front (in_turn read rest bytes)) xs i x lt in
+    let one : behind front (in_turn read (get_or xs i x ∷ drop (i + 1) xs) bytes) ≡ behind (front ++ y ∷ []) (in_turn read (drop (i + 1) xs) after) = rw (here, h) (regroup front y (in_turn read (drop (i + 1) xs) after)) in
     sym (k ∙ one) ∙ so_far
 
 pub ends : {A B : Type 0} (read : A → List ℕ → Read B) (e : PageError) (front : List B) (xs : List A) (i : ℕ) (x : A) (bytes : List ℕ) (total : Read (List B)) → i < length xs → get_or xs i x ≡ x
-    → Fails e (read x bytes) → with_front front (in_turn read (drop i xs) bytes) ≡ total → Fails e total
+    → Fails e (read x bytes) → behind front (in_turn read (drop i xs) bytes) ≡ total → Fails e total
 unfolding in_turn
 ends read errors.NoMemory front xs i x bytes total lt here h so_far = tt
 ends read (errors.Bad at) front xs i x bytes total lt here h so_far =
-    let k : with_front front (in_turn read (drop i xs) bytes) ≡ with_front front (in_turn read (get_or xs i x ∷ drop (i + 1) xs) bytes) = at_drop_more (λ rest. with_front front (in_turn read rest bytes)) xs i x lt in
-    let one : with_front front (in_turn read (get_or xs i x ∷ drop (i + 1) xs) bytes) ≡ Err at = rw (here, h) refl in
+    let k : behind front (in_turn read (drop i xs) bytes) ≡ behind front (in_turn read (get_or xs i x ∷ drop (i + 1) xs) bytes) = at_drop_more (λ rest. behind front (in_turn read rest bytes)) xs i x lt in
+    let one : behind front (in_turn read (get_or xs i x ∷ drop (i + 1) xs) bytes) ≡ Err at = rw (here, h) refl in
     sym so_far ∙ k ∙ one
 
-pub is_done : {A B : Type 0} (read : A → List ℕ → Read B) (front : List B) (xs : List A) (i : ℕ) (bytes : List ℕ) (total : Read (List B)) → length xs ≤ i → with_front front (in_turn read (drop i xs) bytes) ≡ total → total ≡ Ok (front, bytes)
+pub is_done : {A B : Type 0} (read : A → List ℕ → Read B) (front : List B) (xs : List A) (i : ℕ) (bytes : List ℕ) (total : Read (List B)) → length xs ≤ i → behind front (in_turn read (drop i xs) bytes) ≡ total → total ≡ Ok (front, bytes)
 unfolding in_turn
 is_done {B = B} read front xs i bytes total le so_far =
-    sym so_far ∙ at_drop_all (λ rest. with_front front (in_turn read rest bytes)) xs i le ∙ ap (λ (ys : List B). Ok (ys, bytes)) (append-nil front)
+    sym so_far ∙ at_drop_all (λ rest. behind front (in_turn read rest bytes)) xs i le ∙ ap (λ (ys : List B). Ok (ys, bytes)) (append-nil front)
 
 -- ---- what it shows
 
--- a list of bytes
-abbrev pub IsBytes : List ℕ → Type 0
-IsBytes bytes = (i : ℕ) → get_or bytes i 0 < 256
+abbrev pub IsByte : ℕ → Type 0
+IsByte b = b < 256
+
+abbrev pub AreBytes : List ℕ → Type 0
+AreBytes = All IsByte
 
 -- the value of a step that did not fail
-pub bind_ok : {A B : Type 0} (r : Result A ℕ) (f : A → Result B ℕ) (y : B) → (r >>= f) ≡ Ok y → (x : A) × (r ≡ Ok x) × (f x ≡ Ok y)
-bind_ok (Ok x) f y e = (x, refl, e)
-bind_ok (Err at) f y e = absurd cc
+pub step_ok : {A B : Type 0} (r : Result A ℕ) (f : A → Result B ℕ) (y : B) → (r >>= f) ≡ Ok y → (x : A) × (r ≡ Ok x) × (f x ≡ Ok y)
+step_ok (Ok x) f y e = (x, refl, e)
+step_ok (Err at) f y e = absurd cc
 
-abbrev pub done : {A : Type 0} → A → Result A ℕ
-done x = Ok x
+-- an answer that is no fault
+abbrev pub got : {A : Type 0} → A → Result A ℕ
+got x = Ok x
 
-pub ok_is : {A : Type 0} (x y : A) → done x ≡ done y → x ≡ y
-ok_is x y e = cc
+pub got_is : {A : Type 0} (x y : A) → got x ≡ got y → x ≡ y
+got_is x y same = cc
 
--- what a reader took from the front
-pub record Takes (bytes text rest : List ℕ) : Type 0 where
+-- a text that a reader took from the front of these bytes, and what it left
+pub record TakesOff (bytes text rest : List ℕ) : Type 0 where
   pub parts : bytes ≡ text ++ rest
-  pub rest_fits : IsBytes rest
+  pub left_fits : AreBytes rest
 
-pub Takes-then : (a x b y c : List ℕ) → Takes a x b → Takes b y c → Takes a (x ++ y) c
-Takes-then a x b y c p q = record { parts = p.parts ∙ ap (λ (t : List ℕ). x ++ t) q.parts ∙ sym (append_assoc x y c); rest_fits = q.rest_fits }
+-- two readers one after the other
+pub both_taken : (bytes one between two rest : List ℕ) → TakesOff bytes one between → TakesOff between two rest → TakesOff bytes (one ++ two) rest
+both_taken bytes one between two rest first second = record {
+  parts = first.parts ∙ (ap (λ (tail : List ℕ). one ++ tail) second.parts ∙ sym (append_assoc one two rest));
+  left_fits = second.left_fits;
+}
 
 -- each that is read stands there, spelled so, and is related to what it was read for
 pub turns_take : {A B : Type 0} (read : A → List ℕ → Read B) (spell : B → List ℕ) (R : A → B → Type 0)
-    → ((x : A) (bytes : List ℕ) (y : B × List ℕ) → IsBytes bytes → read x bytes ≡ Ok y → Takes bytes (spell y.0) y.1 × R x y.0)
-    → (xs : List A) (bytes : List ℕ) (ys : List B × List ℕ) → IsBytes bytes → in_turn read xs bytes ≡ Ok ys → Takes bytes (flat_map spell ys.0) ys.1 × Pairs R xs ys.0
+    → ((x : A) (bytes : List ℕ) (y : B × List ℕ) → AreBytes bytes → read x bytes ≡ Ok y → TakesOff bytes (spell y.0) y.1 × R x y.0)
+    → (xs : List A) (bytes : List ℕ) (ys : List B × List ℕ) → AreBytes bytes → in_turn read xs bytes ≡ Ok ys → TakesOff bytes (flat_map spell ys.0) ys.1 × Pairs R xs ys.0
 unfolding in_turn
 turns_take {B = B} read spell R takes [] bytes ys fits e =
-    subst (λ (y : List B × List ℕ). Takes bytes (flat_map spell y.0) y.1 × Pairs R [] y.0) (ok_is ([], bytes) ys e) (record { parts = refl; rest_fits = fits }, tt)
+    subst (λ (y : List B × List ℕ). TakesOff bytes (flat_map spell y.0) y.1 × Pairs R [] y.0) (got_is ([], bytes) ys e) (record { parts = refl; left_fits = fits }, tt)
 turns_take {B = B} read spell R takes (x ∷ xs) bytes ys fits e =
-    let a = bind_ok (read x bytes) (λ first. in_turn read xs first.1 >>= λ others. Ok (first.0 ∷ others.0, others.1)) ys e in
-    let b = bind_ok (in_turn read xs a.0.1) (λ others. Ok (a.0.0 ∷ others.0, others.1)) ys a.2 in
+    let a = step_ok (read x bytes) (λ first. in_turn read xs first.1 >>= λ others. Ok (first.0 ∷ others.0, others.1)) ys e in
+    let b = step_ok (in_turn read xs a.0.1) (λ others. Ok (a.0.0 ∷ others.0, others.1)) ys a.2 in
     let first = takes x bytes a.0 fits a.1 in
-    let second = turns_take read spell R takes xs a.0.1 b.0 first.0.rest_fits b.1 in
-    let both = Takes-then bytes (spell a.0.0) a.0.1 (flat_map spell b.0.0) b.0.1 first.0 second.0 in
+    let second = turns_take read spell R takes xs a.0.1 b.0 first.0.left_fits b.1 in
+    let both = both_taken bytes (spell a.0.0) a.0.1 (flat_map spell b.0.0) b.0.1 first.0 second.0 in
     let made : List B × List ℕ = (a.0.0 ∷ b.0.0, b.0.1) in
-    subst (λ (y : List B × List ℕ). Takes bytes (flat_map spell y.0) y.1 × Pairs R (x ∷ xs) y.0) (ok_is made ys b.2) (both, (first.1, second.1))
+    subst (λ (y : List B × List ℕ). TakesOff bytes (flat_map spell y.0) y.1 × Pairs R (x ∷ xs) y.0) (got_is made ys b.2) (both, (first.1, second.1))
 
 -- what is spelled so is read
 pub turns_again : {A B : Type 0} (read : A → List ℕ → Read B) (spell : B → List ℕ) (R : A → B → Type 0)

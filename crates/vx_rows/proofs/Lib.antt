@@ -1,4 +1,5 @@
 pub mod AccumulatorLemmas
+pub mod BatchLaw
 pub mod BodyLemmas
 pub mod ChangeLemmas
 pub mod ContainerLemmas

@@ -1,9 +1,10 @@
 -- The rows that records stand for, and what they store, when one record changes.
-use Rattle.std.proofs.Common.{◌≡◌, ℕ, zero, suc, ◌+◌, ◌<◌, ◌≤◌, nat_le, true, false, Option, Some, None, List, [], ◌∷◌, ◌++◌, length, map, take, drop, get_or, set, All, refl, sym, ap, ◌∙◌, subst, arith, append_assoc, ◌⊎◌, inl, inr}
+use Rattle.std.proofs.Common.{◌≡◌, ℕ, zero, suc, ◌+◌, ◌<◌, ◌≤◌, nat_le, true, false, Option, Some, None, unwrap_or, IsSome, is_some, List, [], ◌∷◌, ◌++◌, length, map, take, drop, get_or, set, All, refl, sym, ap, ◌∙◌, subst, arith, append_assoc, ◌⊎◌, inl, inr}
 use Rattle.std.specs.List.{sum_by}
 use Rattle.std.specs.List.Sorted.{IsPermutation}
 use Rattle.std.proofs.lemmas.Bool.{cases_lt}
-use Rattle.std.proofs.lemmas.List.{set-get_or, append-nil, length-map, map-set, length-take-le}
+use Rattle.std.proofs.lemmas.Option.{none-some}
+use Rattle.std.proofs.lemmas.List.{set-get_or, append-nil, length-map, map-set, length-take-le, get_or_past, get_or-set_same, map-append}
 use Rattle.std.proofs.lemmas.List.Elements.{All-cons, All-head, All-tail, All-take, All-drop}
 use Rattle.std.proofs.lemmas.List.Sums.{sum_by-cons, sum_by-take-drop}
 use Rattle.std.proofs.lemmas.List.Sorted.{IsPermutation-refl, IsPermutation-sym, IsPermutation-trans, IsPermutation-append_left, IsPermutation-append_right, IsPermutation-append_comm}
@@ -129,6 +130,10 @@ new_row_is a d columns fields body cells many f =
     let back : map (held_of d) (drop columns (all_stored fields body)) ≡ map zero_held (drop columns fields) = ap (map (held_of d)) rest ∙ zeros in
     λ k. record { next = None; matched = false; cells = front k; extras = back k }
 
+some_seen : (a : ArenaModel) (columns : ℕ) (fields : List Extra) (o : Option Record) → IsSome o → is_some (live_in a columns fields o) ≡ true
+some_seen a columns fields None some = absurd (cc)
+some_seen a columns fields (Some r) some = refl
+
 -- ---- a record added
 
 module _ (a d : ArenaModel) (columns : ℕ) (fields : List Extra) (before after : RecordsModel) (number : ℕ) (body : List ℕ) (cells : List Value) (held : Holds a (stored_of fields before.records)) (f : Fills a d (empty_of fields) (all_stored fields body) cells) (adds : AddsRecord before after number (fresh body)) where
@@ -155,6 +160,12 @@ module _ (a d : ArenaModel) (columns : ℕ) (fields : List Extra) (before after 
       by_place (inl less) = again less
       by_place (inr enough) = next (let near : number ≤ length before.records = adds.near in omega (arith, near, enough))
 
+  unchanged : rows_in d columns fields before.records ≡ rows_in a columns fields before.records
+  unchanged = rows_same a d columns fields before.records (f.adds.values (stored_of fields before.records) held)
+
+  new_is : length cells ≡ columns → row_in d columns fields (fresh body) ≡ new_row (drop columns fields) cells
+  new_is many = new_row_is a d columns fields body cells many f
+
   pub added_row : length cells ≡ columns → AddsRow (rows_in a columns fields before.records) (rows_in d columns fields after.records) number (new_row (drop columns fields) cells)
   added_row many = record {
     free = rows_at a columns fields before.records number ∙ ap (live_in a columns fields) adds.free;
@@ -162,6 +173,19 @@ module _ (a d : ArenaModel) (columns : ℕ) (fields : List Extra) (before after 
     others = λ n apart.
         let same : rows_in d columns fields before.records ≡ rows_in a columns fields before.records = rows_same a d columns fields before.records (f.adds.values (stored_of fields before.records) held) in
         rows_at d columns fields after.records n ∙ (ap (live_in d columns fields) (adds.others n apart) ∙ (sym (rows_at d columns fields before.records n) ∙ ap (λ (l : List (Option LiveRow)). get_or l n None) same));
+    near = let near : number ≤ length before.records = adds.near in omega (arith, near, length-map before.records (live_in a columns fields));
+    again = λ less.
+        let below : number < length before.records = omega (arith, less, length-map before.records (live_in a columns fields)) in
+        ap (λ (m : RecordsModel). rows_in d columns fields m.records) (adds.again below)
+        ∙ (map-set (live_in d columns fields) before.records number (Some (fresh body)) ∙ (λ i. set (unchanged i) number (Some (new_is many i))));
+    next = λ last.
+        let end : number ≡ length before.records = omega (arith, last, length-map before.records (live_in a columns fields)) in
+        ap (λ (m : RecordsModel). rows_in d columns fields m.records) (adds.next end)
+        ∙ (map-append (live_in d columns fields) before.records (Some (fresh body) ∷ []) ∙ (λ i. unchanged i ++ Some (new_is many i) ∷ []));
+    needed = λ last n less.
+        let end : number ≡ length before.records = omega (arith, last, length-map before.records (live_in a columns fields)) in
+        let below : n < length before.records = omega (arith, less, length-map before.records (live_in a columns fields)) in
+        ap is_some (rows_at a columns fields before.records n) ∙ some_seen a columns fields (record_in before n) (adds.needed end n below);
     count = let few : length after.records ≤ length before.records + 1 = adds.count in omega (arith, few, length-map before.records (live_in a columns fields), length-map after.records (live_in d columns fields));
     fits = adds.fits;
   }
@@ -297,3 +321,18 @@ has_columns columns fields kinds shape few same = record {
   few = let many : length (kinds_in columns fields) ≡ columns = many_columns columns fields few in omega (arith, many, ap length same, few);
   each = λ i less. ap (λ (l : List Extra). field_at l i) (shape ∙ ap (λ (l : List Kind). fields_of l (extras_in columns fields)) (sym same)) ∙ field_of_kind kinds (extras_in columns fields) i kind.Bool less;
 }
+
+-- ---- a row found is live
+
+abbrev pub IsThere : List (Option LiveRow) → ℕ → Type 0
+IsThere rows n = get_or rows n None ≡ Some (unwrap_or (get_or rows n None) (record { next = None; matched = false; cells = []; extras = [] }))
+
+pub found_there : (rows : List (Option LiveRow)) (n : ℕ) (row : LiveRow) → get_or rows n None ≡ Some row → IsThere rows n
+found_there rows n row is = rw is refl
+
+pub set_there : (rows now : List (Option LiveRow)) (n : ℕ) (was row : LiveRow) → get_or rows n None ≡ Some was → now ≡ set rows n (Some row) → IsThere now n
+set_there rows now n was row is same = found_there now n row (ap (λ (l : List (Option LiveRow)). get_or l n None) same ∙ get_or-set_same rows n (Some row) None (below (cases_lt n (length rows))))
+  where
+    below : (n < length rows) ⊎ (length rows ≤ n) → n < length rows
+    below (inl less) = less
+    below (inr past) = absurd (none-some was (sym (get_or_past rows n None past) ∙ is))

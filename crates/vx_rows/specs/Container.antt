@@ -1,5 +1,5 @@
 -- A container of rows: what its records and its arena stand for, and what each call does to the list of its rows.
-use Rattle.std.specs.Prelude.{◌≡◌, ℕ, ◌+◌, ◌^◌, ◌<◌, ◌≤◌, Bool, true, false, Option, Some, None, is_some, List, [], length, map, take, drop, replicate, slice_index_or, slice_set, unwrap_or}
+use Rattle.std.specs.Prelude.{◌≡◌, ℕ, ◌+◌, ◌^◌, ◌<◌, ◌≤◌, Bool, true, false, Option, Some, None, is_some, List, [], ◌∷◌, ◌++◌, length, map, take, drop, replicate, slice_index_or, slice_set, unwrap_or}
 use Rattle.std.specs.List.{sum_by, flat_map, filter, range_with_len}
 use Rattle.vx_arena.specs.Text.{ArenaModel, more}
 use Rattle.vx_arena.specs.Part.{Pays}
@@ -167,6 +167,11 @@ pub record AddsRow (before after : List (Option LiveRow)) (number : ℕ) (row : 
   pub free : slice_index_or before number None ≡ None
   pub there : slice_index_or after number None ≡ Some row
   pub others : (n : ℕ) → (n ≡ number → ⊥) → slice_index_or after n None ≡ slice_index_or before n None
+  -- exactly
+  pub near : number ≤ length before
+  pub again : number < length before → after ≡ slice_set before number (Some row)
+  pub next : number ≡ length before → after ≡ before ++ Some row ∷ []
+  pub needed : number ≡ length before → (n : ℕ) → n < length before → is_some (slice_index_or before n None) ≡ true
   pub count : length after ≤ length before + 1
   pub fits : number + 1 < 2 ^ 32
 

@@ -1,6 +1,6 @@
 -- How many bytes of chunks a put of a batch's rows takes at most: those that so many rows need alone, and for texts
 -- one chunk for each 2,040 bytes of blocks and one more.
-use Rattle.std.specs.Prelude.{◌≡◌, ℕ, ◌+◌, ◌*◌, ◌/◌, ◌==◌, if◌then◌else◌, List, [], ◌∷◌}
+use Rattle.std.specs.Prelude.{◌≡◌, ℕ, ◌+◌, ◌*◌, ◌/◌, ◌==◌, if◌then◌else◌, List, [], ◌∷◌, length}
 use Rattle.std.specs.List.{sum_by}
 use Rattle.std.specs.Int.{div_ceil}
 use Rattle.vx_arena.specs.Chunks.{Chunks, held_by}
@@ -10,7 +10,8 @@ use Rattle.vx_records.specs.Adding.{bytes_of}
 use Rattle.vx_vector.specs.Column.{Column}
 use Rattle.vx_vector.specs.Batch.{row_of}
 use Rattle.vx_rows.specs.declared.fields.Extra.{Extra}
-use Rattle.vx_rows.specs.Layout.{rows_a_chunk}
+use Rattle.vx_rows.specs.Layout.{fields_of, rows_a_chunk}
+use Rattle.vx_rows.specs.Container.{AddsRow, ContainerModel, Takes, blocks_of_row, new_row}
 use Rattle.vx_rows.specs.Texts.{text_cost}
 
 -- the chunks of so many rows
@@ -52,3 +53,22 @@ pub record PutsRow (columns : List Column) (at : ℕ) (before after : Held) : Ty
 abbrev pub PutsRows : List Column → List ℕ → Held → Held → Type 0
 PutsRows columns [] before after = after ≡ before
 PutsRows columns (at ∷ rest) before after = (middle : Held) × PutsRow columns at before middle × PutsRows columns rest middle after
+
+-- ---- the same of a container, as contracts see it
+
+-- how many bytes its chunks have
+abbrev pub container_bytes : ContainerModel → ℕ
+container_bytes c = row_need (fields_of c.kinds c.extras) (length c.rows) + held_by c.arena.chunks
+
+-- a row of a batch was added
+pub record AddsOne (columns : List Column) (at : ℕ) (before after : ContainerModel) : Type 0 where
+  pub number : ℕ
+  pub kinds : after.kinds ≡ before.kinds
+  pub extras : after.extras ≡ before.extras
+  pub adds : AddsRow before.rows after.rows number (new_row before.extras (row_of columns at))
+  pub takes : Takes before.arena after.arena (blocks_of_row (new_row before.extras (row_of columns at))) (sum_by text_cost (row_of columns at))
+
+-- these rows of it, one after another
+abbrev pub AddsAll : List Column → List ℕ → ContainerModel → ContainerModel → Type 0
+AddsAll columns [] before after = after ≡ before
+AddsAll columns (at ∷ rest) before after = (middle : ContainerModel) × AddsOne columns at before middle × AddsAll columns rest middle after

@@ -72,6 +72,7 @@ impl RowContainer {
         requires kinds { kinds_of batch.now.columns.items ≡ self.old.kinds }
         requires row { row < batch.now.rows }
         ensures ok { IfOk result (λ number. AddsRow self.old.rows self.new.rows number (new_row self.old.extras (row_of batch.now.columns.items row))) }
+        ensures there { IfOk result (λ number. IsLive self.new number) }
         ensures takes { IfOk result (λ _. Takes self.old.arena self.new.arena (blocks_of_row (new_row self.old.extras (row_of batch.now.columns.items row))) (sum_by text_cost (row_of batch.now.columns.items row))) }
 
         // After an error no row has changed, and what was taken was given back.
@@ -157,7 +158,8 @@ impl RowContainer {
     pub fn set_next(&mut self, row: u32, next: Option<u32>)
         requires live { IsLive self.old row }
         requires fits { IfSome next (λ next. next + 1 < 2 ^ 32) }
-        ensures { self.new ≡ record self.old { rows = with_row self.old row (record (live self.old row) { next = next }) } }
+        ensures set { self.new ≡ record self.old { rows = with_row self.old row (record (live self.old row) { next = next }) } }
+        ensures there { IsLive self.new row }
     {
         let _columns = &self.columns;
         self.records.set_next(row, next);
@@ -177,7 +179,8 @@ impl RowContainer {
     #[inline]
     pub fn set_matched(&mut self, row: u32)
         requires { IsLive self.old row }
-        ensures { self.new ≡ record self.old { rows = with_row self.old row (record (live self.old row) { matched = true }) } }
+        ensures set { self.new ≡ record self.old { rows = with_row self.old row (record (live self.old row) { matched = true }) } }
+        ensures there { IsLive self.new row }
     {
         let _columns = &self.columns;
         self.records.set_matched(row);
@@ -239,7 +242,8 @@ impl RowContainer {
     pub fn set_extra(&mut self, row: u32, which: u32, from: &[u8])
         requires live { IsLive self.old row }
         requires bytes { HasBytes self.old.extras which (length from.now) }
-        ensures { self.new ≡ record self.old { rows = with_row self.old row (with_held (live self.old row) which (bytes from.now)) } }
+        ensures set { self.new ≡ record self.old { rows = with_row self.old row (with_held (live self.old row) which (bytes from.now)) } }
+        ensures there { IsLive self.new row }
     {
         let (_count, _body) = (self.layout.count(), self.records.body(row));
         let at = self.layout.at(self.columns + which);
@@ -253,6 +257,8 @@ impl RowContainer {
         requires lawful { IsLawful (owned value) }
         ensures ok { OnOk result (self.new.rows ≡ with_row self.old row (with_held (live self.old row) which (cell (owned value.entry)))) }
         ensures changes { OnOk result (Changes self.old.arena self.new.arena (blocks_of_value (owned value.entry)) (blocks_of_held (held_at (live self.old row) which)) (text_cost (owned value.entry))) }
+
+        ensures there { OnOk result (IsLive self.new row) }
 
         // After an error no row has changed, and what was taken was given back.
         ensures err { OnErr result (self.new.rows ≡ self.old.rows) }

@@ -9,6 +9,7 @@ use Rattle.vx_rows.specs.Texts.{Frees, Holds, Keeps, text_cost}
 use Rattle.vx_rows.specs.Container.{ContainerModel, IsContainer, Takes, TakesBack, blocks_of_row, new_row}
 use Rattle.vx_rows.proofs.ContainerLemmas.{added_container, added_count, added_seen, filled_body, kept_container, kept_count, kept_seen, through}
 use Rattle.vx_rows.proofs.ResultLemmas.{on_err}
+use Rattle.vx_rows.proofs.RowLemmas.{found_there}
 use Rattle.vx_rows.proofs.Taking.{added_freed}
 use Rattle.vx_rows.proofs.container.RowContainer.add.Goals as goal
 
@@ -40,6 +41,16 @@ returns-in-Ok-clause-ok c =
     let body : c.as_slice-2.result.now ≡ c.fill.new.body = c.as_slice-2.ensures.value ∙ through c.copy_from_slice.new.self.len c.fill.new.body c.copy_from_slice.new.self.items len in
     let adds : AddsRecord s.records c.add.new.self c.in-Ok.number (fresh c.fill.new.body) = subst (λ (b : List ℕ). AddsRecord s.records c.add.new.self c.in-Ok.number (fresh b)) body c.in-Ok.ensures.ok in
     added_seen s.arena c.fill.new.arena s.columns s.layout s.records s.empty.items s.scratch.items c.fill.new.body c.args.batch.now.columns.items c.args.row c.self.invariant (c.requires.kinds ∙ sym (ap (λ (m : ContainerModel). m.kinds) c.self.view_is)) c.add.new.self c.in-Ok.number c.args.self.now.rows c.args.self.now.extras (ap (λ (m : ContainerModel). m.rows) c.self.view_is) (ap (λ (m : ContainerModel). m.extras) c.self.view_is) c.in_ok-fill.ensures.ok adds
+
+pub returns-in-Ok-clause-there : goal.returns-in-Ok-clause-there
+returns-in-Ok-clause-there c =
+    let s = c.self.inside in
+    let many : length c.fill.new.body ≡ body_len s.layout = c.fill.ensures.len ∙ (ap length (c.as_mut_slice.ensures.value ∙ (c.copy_from_slice.ensures.items ∙ c.as_slice.ensures.value)) ∙ c.self.invariant.whole) in
+    let len : length c.fill.new.body ≡ c.copy_from_slice.new.self.len = c.fill.ensures.len ∙ c.as_mut_slice.ensures.len in
+    let body : c.as_slice-2.result.now ≡ c.fill.new.body = c.as_slice-2.ensures.value ∙ through c.copy_from_slice.new.self.len c.fill.new.body c.copy_from_slice.new.self.items len in
+    let adds : AddsRecord s.records c.add.new.self c.in-Ok.number (fresh c.fill.new.body) = subst (λ (b : List ℕ). AddsRecord s.records c.add.new.self c.in-Ok.number (fresh b)) body c.in-Ok.ensures.ok in
+    let added = added_seen s.arena c.fill.new.arena s.columns s.layout s.records s.empty.items s.scratch.items c.fill.new.body c.args.batch.now.columns.items c.args.row c.self.invariant (c.requires.kinds ∙ sym (ap (λ (m : ContainerModel). m.kinds) c.self.view_is)) c.add.new.self c.in-Ok.number c.args.self.now.rows c.args.self.now.extras (ap (λ (m : ContainerModel). m.rows) c.self.view_is) (ap (λ (m : ContainerModel). m.extras) c.self.view_is) c.in_ok-fill.ensures.ok adds in
+    found_there _ c.in-Ok.number _ added.there
 
 pub returns-in-Ok-clause-takes : goal.returns-in-Ok-clause-takes
 returns-in-Ok-clause-takes c =

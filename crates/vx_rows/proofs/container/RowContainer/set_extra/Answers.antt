@@ -6,7 +6,7 @@ use Rattle.vx_rows.specs.Container.{ContainerModel, live}
 use Rattle.vx_rows.proofs.AccumulatorLemmas.{bytes_container, bytes_seen}
 use Rattle.vx_rows.proofs.BodyLemmas.{field_inside}
 use Rattle.vx_rows.proofs.FieldLemmas.{has_bytes, has_count}
-use Rattle.vx_rows.proofs.RowLemmas.{live_parts}
+use Rattle.vx_rows.proofs.RowLemmas.{live_parts, set_there}
 use Rattle.vx_rows.proofs.ContainerLemmas.{seen_as}
 use Rattle.vx_rows.proofs.container.RowContainer.set_extra.Goals as goal
 
@@ -27,11 +27,20 @@ invariant_of-self c =
     let f = has_bytes s.columns s.layout c.args.which (length c.args.from.now) (ap (λ (m : ContainerModel). get_or m.extras c.args.which (extra.Slot kind.Bool)) c.self.view_is ∙ c.requires.bytes) in
     bytes_container s.arena s.columns s.layout s.records c.write.new.self s.empty.items s.scratch.items c.args.row row c.args.which c.at-at.result c.args.from.now c.self.invariant parts f (has_count s.columns s.layout c.args.which (length c.args.from.now) (ap (λ (m : ContainerModel). get_or m.extras c.args.which (extra.Slot kind.Bool)) c.self.view_is ∙ c.requires.bytes)) c.at-at.ensures (ap length (sym c.body-body.ensures.is) ∙ (c.body-body.ensures.len ∙ c.self.invariant.len)) c.write.ensures.set
 
-pub returns : goal.returns
-returns c =
+pub returns-clause-set : goal.returns-clause-set
+returns-clause-set c =
     let s = c.self.inside in
     let row = live c.args.self.now c.args.row in
     let rows = ap (λ (m : ContainerModel). m.rows) c.self.view_is in
     let parts = live_parts s.arena s.columns s.layout s.records c.args.self.now.rows c.args.row row rows c.requires.live in
     let f = has_bytes s.columns s.layout c.args.which (length c.args.from.now) (ap (λ (m : ContainerModel). get_or m.extras c.args.which (extra.Slot kind.Bool)) c.self.view_is ∙ c.requires.bytes) in
     seen_as c.args.self.now _ _ _ _ _ s.arena c.self.view_is (bytes_seen s.arena s.columns s.layout s.records c.write.new.self s.empty.items s.scratch.items c.args.row row c.args.which c.at-at.result c.args.from.now c.self.invariant parts f (has_count s.columns s.layout c.args.which (length c.args.from.now) (ap (λ (m : ContainerModel). get_or m.extras c.args.which (extra.Slot kind.Bool)) c.self.view_is ∙ c.requires.bytes)) c.at-at.ensures (ap length (sym c.body-body.ensures.is) ∙ (c.body-body.ensures.len ∙ c.self.invariant.len)) c.write.ensures.set c.args.self.now.rows rows)
+
+pub returns-clause-there : goal.returns-clause-there
+returns-clause-there c =
+    let s = c.self.inside in
+    let row = live c.args.self.now c.args.row in
+    let rows = ap (λ (m : ContainerModel). m.rows) c.self.view_is in
+    let parts = live_parts s.arena s.columns s.layout s.records c.args.self.now.rows c.args.row row rows c.requires.live in
+    let f = has_bytes s.columns s.layout c.args.which (length c.args.from.now) (ap (λ (m : ContainerModel). get_or m.extras c.args.which (extra.Slot kind.Bool)) c.self.view_is ∙ c.requires.bytes) in
+    set_there c.args.self.now.rows _ c.args.row row _ c.requires.live (bytes_seen s.arena s.columns s.layout s.records c.write.new.self s.empty.items s.scratch.items c.args.row row c.args.which c.at-at.result c.args.from.now c.self.invariant parts f (has_count s.columns s.layout c.args.which (length c.args.from.now) (ap (λ (m : ContainerModel). get_or m.extras c.args.which (extra.Slot kind.Bool)) c.self.view_is ∙ c.requires.bytes)) c.at-at.ensures (ap length (sym c.body-body.ensures.is) ∙ (c.body-body.ensures.len ∙ c.self.invariant.len)) c.write.ensures.set c.args.self.now.rows rows)

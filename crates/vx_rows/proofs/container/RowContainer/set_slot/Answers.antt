@@ -10,7 +10,7 @@ use Rattle.vx_rows.specs.Texts.{text_cost, blocks_of_value}
 use Rattle.vx_rows.specs.Container.{ContainerModel, Changes, IsContainer, TakesBack, TakesValue, blocks_of_held, extras_in, held_at, live}
 use Rattle.vx_rows.proofs.AccumulatorLemmas.{fits_value, old_kept, slot_changes, slot_container, slot_seen, takes_slot, written_over}
 use Rattle.vx_rows.proofs.FieldLemmas.{slot_field}
-use Rattle.vx_rows.proofs.RowLemmas.{live_parts}
+use Rattle.vx_rows.proofs.RowLemmas.{live_parts, set_there}
 use Rattle.vx_rows.proofs.ContainerLemmas.{kept_count, kept_seen, own_body, through}
 use Rattle.vx_rows.proofs.ResultLemmas.{on_err}
 use Rattle.std.proofs.lemmas.List.{get_or-drop}
@@ -90,6 +90,27 @@ returns-clause-ok c =
     let put : all_stored s.layout c.as_slice-2.result.now ≡ _ = ap (all_stored s.layout) over ∙ (c.put.ensures.is ∙ ap (λ (b : List ℕ). set (all_stored s.layout b) (s.columns + c.args.which) (seen c.in_ok-stored.stored)) (c.as_mut_slice.ensures.value ∙ sym c.as_slice.ensures.value)) in
     let written_is : c.write.new.self ≡ with_record s.records c.args.row (record (record_at s.records c.args.row) { body = c.as_slice-2.result.now }) = c.write.ensures.set ∙ ap (λ (b : List ℕ). with_record s.records c.args.row (record (record_at s.records c.args.row) { body = b })) (written_over (record_at s.records c.args.row).body c.as_slice-2.result.now all) in
     slot_seen s.arena c.store.new.arena c.give.new.arena s.columns s.layout s.records c.write.new.self s.empty.items s.scratch.items c.args.row row c.args.which (owned c.args.value) (seen c.in_ok-stored.stored) (seen c.field-old.result) c.as_slice.result.now c.as_slice-2.result.now c.self.invariant parts f fits c.in_ok-stored.ensures.ok c.give.ensures old_body c.field-old.ensures put written_is c.args.self.now.rows rows
+
+pub returns-clause-there : goal.returns-clause-there
+returns-clause-there c =
+    let s = c.self.inside in
+    let row = live c.args.self.now c.args.row in
+    let rows = ap (λ (m : ContainerModel). m.rows) c.self.view_is in
+    let parts = live_parts s.arena s.columns s.layout s.records c.args.self.now.rows c.args.row row rows c.requires.live in
+    let extras : get_or (extras_in s.columns s.layout) c.args.which (extra.Bytes 0) ≡ get_or c.args.self.now.extras c.args.which (extra.Bytes 0) = ap (λ (m : ContainerModel). get_or m.extras c.args.which (extra.Bytes 0)) c.self.view_is in
+    let takes : TakesValue (get_or (extras_in s.columns s.layout) c.args.which (extra.Bytes 0)) (owned c.args.value) = subst (λ (e : Extra). TakesValue e (owned c.args.value)) (sym extras) c.requires.kind in
+    let f = slot_field s.columns s.layout c.args.which (takes_slot (get_or (extras_in s.columns s.layout) c.args.which (extra.Bytes 0)) (owned c.args.value) takes) in
+    let copied : c.copy_from_slice.new.self.items ≡ parts.r.body = c.copy_from_slice.ensures.items ∙ own_body s.arena s.arena s.columns s.layout s.records s.records s.empty.items s.scratch.items c.args.row row c.body.result.now c.self.invariant parts c.body.ensures.is in
+    let old_body : c.as_slice.result.now ≡ parts.r.body = c.as_slice.ensures.value ∙ copied in
+    let field_is : field_at s.layout (s.columns + c.args.which) ≡ get_or (extras_in s.columns s.layout) c.args.which (extra.Bytes 0) = sym (get_or-drop s.columns s.layout c.args.which (extra.Bytes 0)) in
+    let fits = subst (λ (e : Extra). TakesValue e (owned c.args.value)) (sym field_is ∙ f.is) takes in
+    let len : length c.put.new.body ≡ c.copy_from_slice.new.self.len = c.put.ensures.len ∙ c.as_mut_slice.ensures.len in
+    let over : c.as_slice-2.result.now ≡ c.put.new.body = c.as_slice-2.ensures.value ∙ through c.copy_from_slice.new.self.len c.put.new.body c.copy_from_slice.new.self.items len in
+    let many : length c.put.new.body ≡ body_len s.layout = c.put.ensures.len ∙ (ap length (c.as_mut_slice.ensures.value ∙ c.copy_from_slice.ensures.items) ∙ (c.body.ensures.len ∙ c.self.invariant.len)) in
+    let all : length c.as_slice-2.result.now ≡ length (record_at s.records c.args.row).body = ap length over ∙ (many ∙ (sym (c.body.ensures.len ∙ c.self.invariant.len) ∙ ap length c.body.ensures.is)) in
+    let put : all_stored s.layout c.as_slice-2.result.now ≡ _ = ap (all_stored s.layout) over ∙ (c.put.ensures.is ∙ ap (λ (b : List ℕ). set (all_stored s.layout b) (s.columns + c.args.which) (seen c.in_ok-stored.stored)) (c.as_mut_slice.ensures.value ∙ sym c.as_slice.ensures.value)) in
+    let written_is : c.write.new.self ≡ with_record s.records c.args.row (record (record_at s.records c.args.row) { body = c.as_slice-2.result.now }) = c.write.ensures.set ∙ ap (λ (b : List ℕ). with_record s.records c.args.row (record (record_at s.records c.args.row) { body = b })) (written_over (record_at s.records c.args.row).body c.as_slice-2.result.now all) in
+    set_there c.args.self.now.rows _ c.args.row row _ c.requires.live (slot_seen s.arena c.store.new.arena c.give.new.arena s.columns s.layout s.records c.write.new.self s.empty.items s.scratch.items c.args.row row c.args.which (owned c.args.value) (seen c.in_ok-stored.stored) (seen c.field-old.result) c.as_slice.result.now c.as_slice-2.result.now c.self.invariant parts f fits c.in_ok-stored.ensures.ok c.give.ensures old_body c.field-old.ensures put written_is c.args.self.now.rows rows)
 
 pub returns-clause-changes : goal.returns-clause-changes
 returns-clause-changes c =

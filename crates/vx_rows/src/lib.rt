@@ -15,6 +15,8 @@ mod need;
 mod need_tests;
 mod nulls;
 mod slot;
+#[cfg(test)]
+mod tests;
 mod texts;
 mod write;
 

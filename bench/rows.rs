@@ -370,6 +370,12 @@ fn tally(cells: &[Value]) -> u64 {
     })
 }
 
+fn add_all(container: &mut Container, numbers: &mut Vec<u32>, columns: &[Column]) {
+    for at in 0..ROWS {
+        numbers.push(container.add(columns, at % BATCH));
+    }
+}
+
 fn main() {
     let words: Vec<String> = env::args().collect();
     let counts: Vec<u32> = words[2..].iter().map(|word| word.parse().unwrap()).collect();
@@ -378,31 +384,30 @@ fn main() {
         _ => ([Kind::Int, Kind::Text], [ints(0), texts()]),
     };
     let mut container = Container::new(&kinds);
+    let mut numbers = Vec::new();
     for _ in 0..counts[0] {
+        numbers.clear();
         container.clear();
-        for number in 0..ROWS {
-            container.add(&columns, number % BATCH);
-        }
+        add_all(&mut container, &mut numbers, &columns);
     }
     let mut sum = 0u64;
     for _ in 0..counts[1] {
-        for number in 0..ROWS {
-            sum = sum.wrapping_add(tally(&container.get(number)));
+        for number in &numbers {
+            sum = sum.wrapping_add(tally(&container.get(*number)));
         }
     }
     let mut equal = 0u64;
     for _ in 0..counts[2] {
-        for number in 0..ROWS {
-            equal += u64::from(container.key_equals(number, &[0, 1], &columns, number % BATCH, &[0, 1]));
+        for (at, number) in numbers.iter().enumerate() {
+            let row = (at % BATCH as usize) as u32;
+            equal += u64::from(container.key_equals(*number, &[0, 1], &columns, row, &[0, 1]));
         }
     }
     for _ in 0..counts[3] {
-        for number in 0..ROWS {
+        while let Some(number) = numbers.pop() {
             container.erase(number);
         }
-        for number in 0..ROWS {
-            container.add(&columns, number % BATCH);
-        }
+        add_all(&mut container, &mut numbers, &columns);
     }
     println!("sum {sum} equal {equal} taken {} given {}", container.arena.taken, container.arena.given);
 }

@@ -31,6 +31,17 @@ impl Txt {
         Ok(Txt { text })
     }
 
+    /// The text of these bytes, in the memory that they have.
+    pub fn from_bytes(bytes: Vec<u8>) -> Txt
+        requires text { IsUtf8 bytes.items }
+        requires short { length bytes.items ≤ 65535 }
+        ensures { result ≡ bytes.items }
+    {
+        Txt {
+            text: String::from_utf8(bytes).unwrap(),
+        }
+    }
+
     pub fn as_bytes(&self) -> &[u8]
         ensures bytes { result.now ≡ self.now }
         ensures text { IsUtf8 result.now }

@@ -4,3 +4,4 @@ pub mod FormLemmas
 pub mod ViewLemmas
 pub mod LaneLemmas
 pub mod MarkLemmas
+pub mod KindLemmas

@@ -2,7 +2,7 @@
 use Rattle.std.specs.Prelude.{◌≡◌, ℕ, Bool, if◌then◌else◌, List, [], ◌∷◌, Option, Some, None, ⊤}
 use Rattle.vx_value.specs.declared.value.Kind.{Kind}
 use Rattle.vx_value.specs.declared.value.Value.{Value}
-use Rattle.vx_value.specs.declared.value.Value.TheVariants.{Null}
+use Rattle.vx_value.specs.declared.value.Value.TheVariants.{Null, Text}
 use Rattle.vx_value.specs.Value.{kind_of}
 use Rattle.vx_value.specs.Row.{value_at}
 
@@ -21,6 +21,11 @@ IsNoneOr wanted (Some k) = k ≡ wanted
 -- a value of this kind, or null
 abbrev pub FitsKind : Kind → Value → Type 0
 FitsKind wanted value = IsNoneOr wanted (kind_of value)
+
+-- it is not a text
+abbrev pub IsNoText : Value → Type 0
+IsNoText (Text t) = ⊥
+IsNoText _ = ⊤
 
 -- at each row the value at its index, and null where the mask says so
 abbrev pub wrapped : List Value → List ℕ → List Bool → List Value

@@ -1,8 +1,10 @@
-ghost use Rattle.std.specs.Prelude.{◌≡◌, ◌<◌, length, get_or, map, replicate, All, IfOk};
+ghost use Rattle.std.specs.Prelude.{◌≡◌, ◌<◌, length, get_or, map, replicate, All, IfOk, IsTrue, ◌↔◌};
+ghost use Rattle.std.specs.Bool.{OnFalse};
 ghost use Rattle.std.specs.List.{range_with_len};
 ghost use Rattle.vx_value.specs.Value.{owned, IsLawful};
+ghost use Rattle.vx_value.specs.declared.value.Kind.TheVariants as kinds;
 ghost use Rattle.vx_value.specs.Row.{value_at};
-ghost use Rattle.vx_vector.specs.Column.{column, wrapped, FitsKind};
+ghost use Rattle.vx_vector.specs.Column.{column, wrapped, FitsKind, IsNoText};
 ghost use Rattle.vx_vector.specs.Lane.{value_of};
 ghost use Rattle.vx_vector.specs.Lanes.{kind_of, rows_of, lane_at};
 
@@ -84,6 +86,19 @@ impl Vector {
         ensures { result ≡ self.now.kind }
     {
         self.form.kind()
+    }
+
+    /// Whether its kind is `Text`. Where it isn't, no value is a text.
+    #[inline]
+    pub fn holds_texts(&self) -> bool
+        ensures is { IsTrue result ↔ (self.now.kind ≡ kinds.Text) }
+        ensures none { OnFalse result (All IsNoText self.now.values) }
+    {
+        match self.form.kind() {
+            Kind::Bool => false,
+            Kind::Int => false,
+            Kind::Text => true,
+        }
     }
 
     /// The number of values.

@@ -1,4 +1,4 @@
-use Rattle.std.proofs.Common.{◌≡◌, ◌++◌, ◌+◌, length, rules, length-append}
+use Rattle.std.proofs.Common.{◌≡◌, ◌++◌, length, rules, length-append}
 use Rattle.vx_vector.specs.Place.{place_from}
 use Rattle.vx_vector.proofs.TextLemmas.{lanes_kept, row_more, placed_more, both_behind, joined_is_text}
 use Rattle.vx_vector.proofs.texts.Texts.push_joined.Goals as goal

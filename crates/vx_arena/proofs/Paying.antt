@@ -48,6 +48,20 @@ pays_then a m d x y one two made spent paid =
 pub pays_cost : (a d : Chunks) (x y : ℕ) → x ≡ y → Pays a d x → Pays a d y
 pays_cost a d x y e pays made spent paid = subst (λ (n : ℕ). PaysMore a d made spent n) e (pays made spent paid)
 
+-- what is paid for blocks of so many bytes is paid for those of more bytes
+paid_for_more : (d : Chunks) (made spent more_spent : ℕ) → spent ≤ more_spent → Paid d made spent → Paid d made more_spent
+paid_for_more d made spent more_spent less (none_made e) = none_made e
+paid_for_more d made spent more_spent less (spare_left n l s most le) = spare_left n l s most (omega (arith, le, less))
+paid_for_more d made spent more_spent less (all_paid le) = all_paid (omega (arith, le, less))
+
+no_less : (x y : ℕ) → x ≤ y → y ≡ 0 → x ≡ 0
+no_less x y less e = omega (arith, less, e)
+
+pub pays_for_more : (a d : Chunks) (x y : ℕ) → x ≤ y → Pays a d x → Pays a d y
+pays_for_more a d x y less pays made spent paid =
+    let one : PaysMore a d made spent x = pays made spent paid in
+    pays_so a d made spent y one.chunks one.held (λ e. one.none (no_less x y less e)) (paid_for_more d (made + one.chunks) (spent + x) (spent + y) (omega (arith, less)) one.paid)
+
 other_spare : (class : ℕ) (a d : Chunks) (name n l : ℕ) → Takes class a d name → (n ≡ name → ⊥) → IsSpare a n l → IsSpare d n l
 other_spare class a d name n l t ne s = record { free = t.others n ne ∙ s.free; long = t.lens n l ne s.long }
 

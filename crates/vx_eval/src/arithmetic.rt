@@ -20,13 +20,13 @@ pub trait IntOp {
 
     ghost meaning: { ℤ → ℤ → Got };
 
+    /// Whether it costs little to compute a row again.
+    const IS_CHEAP: bool;
+
     /// A number and the mark under which it stands.
     fn at(x: i64, y: i64) -> (i64, u8)
         ensures got { got_under result.1 (value.Int result.0) ≡ meaning x y }
         ensures fits { FitsSigned w64 result.0 };
-
-    /// Whether it costs little to compute a row again.
-    fn is_cheap() -> bool;
 }
 
 /// `plus`.
@@ -35,15 +35,12 @@ pub struct Plus;
 impl IntOp for Plus {
     ghost meaning = { eval.sum };
 
+    const IS_CHEAP: bool = true;
+
     #[inline(always)]
     fn at(x: i64, y: i64) -> (i64, u8) {
         let (value, over) = x.overflowing_add(y);
         (value, overflow_if(over))
-    }
-
-    #[inline(always)]
-    fn is_cheap() -> bool {
-        true
     }
 }
 
@@ -53,15 +50,12 @@ pub struct Minus;
 impl IntOp for Minus {
     ghost meaning = { eval.difference };
 
+    const IS_CHEAP: bool = true;
+
     #[inline(always)]
     fn at(x: i64, y: i64) -> (i64, u8) {
         let (value, over) = x.overflowing_sub(y);
         (value, overflow_if(over))
-    }
-
-    #[inline(always)]
-    fn is_cheap() -> bool {
-        true
     }
 }
 
@@ -71,17 +65,14 @@ pub struct Multiply;
 impl IntOp for Multiply {
     ghost meaning = { eval.product };
 
+    const IS_CHEAP: bool = false;
+
     #[inline(always)]
     fn at(x: i64, y: i64) -> (i64, u8) {
         match x.checked_mul(y) {
             Some(value) => (value, FINE),
             None => (0, OVERFLOW),
         }
-    }
-
-    #[inline(always)]
-    fn is_cheap() -> bool {
-        false
     }
 }
 
@@ -90,6 +81,8 @@ pub struct Divide;
 
 impl IntOp for Divide {
     ghost meaning = { eval.quotient };
+
+    const IS_CHEAP: bool = false;
 
     #[inline(always)]
     fn at(x: i64, y: i64) -> (i64, u8) {
@@ -101,11 +94,6 @@ impl IntOp for Divide {
         }
         (x / y, FINE)
     }
-
-    #[inline(always)]
-    fn is_cheap() -> bool {
-        false
-    }
 }
 
 /// `modulus`.
@@ -114,17 +102,14 @@ pub struct Modulus;
 impl IntOp for Modulus {
     ghost meaning = { eval.remainder };
 
+    const IS_CHEAP: bool = false;
+
     #[inline(always)]
     fn at(x: i64, y: i64) -> (i64, u8) {
         if y == 0 {
             return (0, DIVIDE_BY_ZERO);
         }
         (x.wrapping_rem(y), FINE)
-    }
-
-    #[inline(always)]
-    fn is_cheap() -> bool {
-        false
     }
 }
 
@@ -157,7 +142,7 @@ pub fn of_ints<O: IntOp>(alloc: Global, a: &Ints, b: &Ints) -> Result<Ints, Allo
     ensures rows { IfOk result (λ r. length r.marks.items ≡ length a.now.marks.items) }
     ensures each { IfOk result (λ r. (k : ℕ) → k < length a.now.marks.items → got_of (int_lane r k) ≡ eval.binary (eval.of_ints O.meaning) (got_of (int_lane a.now k)) (got_of (int_lane b.now k))) }
 {
-    if !O::is_cheap() {
+    if !O::IS_CHEAP {
         return row_by_row::<O>(alloc, a, b);
     }
     let (values, faults) = computed::<O>(alloc, a.values.as_slice(), b.values.as_slice())?;

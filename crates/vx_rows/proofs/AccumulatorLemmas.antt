@@ -1,6 +1,5 @@
 -- What a container keeps, and shows, after an accumulator was changed: in the form of the answers.
-use Rattle.std.proofs.Common.{◌≡◌, ℕ, ◌+◌, false, Option, Some, List, [], ◌∷◌, ◌++◌, length, drop, get_or, set, All, refl, sym, ap, ◌∙◌, subst, arith}
-use Rattle.std.proofs.lemmas.List.{append-nil, drop_all}
+use Rattle.std.proofs.Common.{◌≡◌, ℕ, ◌+◌, false, Option, Some, List, [], ◌∷◌, length, get_or, set, All, refl, sym, ap, ◌∙◌, subst, arith}
 use Rattle.vx_raw.specs.Region.{written}
 use Rattle.vx_arena.specs.Text.{ArenaModel, more}
 use Rattle.vx_arena.proofs.Paying.{pays_then, pays_cost}
@@ -81,12 +80,6 @@ slot_held d k (short t) of = refl
 slot_held d k (long len front place) of = refl
 slot_held d k (raw b) of = absurd of
 
--- what is written over all is all
-pub written_over : (body from : List ℕ) → length from ≡ length body → written body 0 from ≡ from
-written_over body from many =
-    let none_left : drop (0 + length from) body ≡ [] = drop_all (0 + length from) body (omega (arith, many)) in
-    ap (λ (l : List ℕ). from ++ l) none_left ∙ append-nil from
-
 -- the old cell is there still
 pub old_kept : (a m : ArenaModel) (columns : ℕ) (fields : List Extra) (records : RecordsModel) (empty scratch : List ℕ) (n : ℕ) (row : LiveRow) (which : ℕ) (v : Value) (s old : Stored) (body : List ℕ) → IsContainer columns fields records a empty scratch → (parts : LiveParts a columns fields records n row) → SlotField columns fields which → Stores a m v s → body ≡ parts.r.body → old ≡ stored_in fields body (columns + which) → IsKept m old
 old_kept a m columns fields records empty scratch n row which v s old body keeps parts f one same is =
@@ -115,15 +108,15 @@ module _ (a m d : ArenaModel) (columns : ℕ) (fields : List Extra) (records now
   frees_same : (others : List Stored) → Holds m (get_or (all_stored fields parts.r.body) (columns + which) null ∷ others) → All (SameValue m d) others
   frees_same others h = freed.values others (subst (λ (x : Stored). Holds m (x ∷ others)) old_at h)
 
-  pub slot_container : (after : List ℕ) → length after ≡ body_len fields → IsContainer columns fields now d empty after
+  pub slot_container : IsContainer columns fields now d empty scratch
   unfolding altered
-  slot_container after many = record {
+  slot_container = record {
     shape = keeps.shape;
     few = keeps.few;
     len = ap (λ (x : RecordsModel). x.len) is ∙ keeps.len;
     whole = keeps.whole;
     nothing = keeps.nothing;
-    room = many;
+    room = keeps.room;
     holds = subst (λ (x : RecordsModel). Holds d (stored_of fields x.records)) (sym is) (put_holds a m d columns fields records.records n parts.r altered which s parts.below parts.there keeps.holds f.less head_is put_is one.adds.holds one.adds.values frees_old frees_same);
   }
 

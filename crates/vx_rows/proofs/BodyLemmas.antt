@@ -187,6 +187,9 @@ stored_slot fields body which k bytes is clear same =
     ∙ ap (λ (e : Extra). read_field e (is_null_in body which) (bytes_of fields body which)) (sym is))
 
 -- there is room for what is written
+pub room_in_body : (fields : List Extra) (which : ℕ) (s : Stored) → which < length fields → FitsField (field_at fields which) s → place_of fields which + length (spelled s) ≤ body_len fields
+room_in_body fields which s less fits = omega (arith, few_spelled (field_at fields which) s fits, field_inside fields which less)
+
 pub room_for_stored : (fields : List Extra) (body now : List ℕ) (which byte : ℕ) (s : Stored) → which < length fields → length body ≡ body_len fields → FitsField (field_at fields which) s → now ≡ written body (which / 8) (byte ∷ []) → place_of fields which + length (spelled s) ≤ length now
 room_for_stored fields body now which byte s less whole fits is =
     let near : which / 8 < null_len (length fields) = null_inside fields which less in

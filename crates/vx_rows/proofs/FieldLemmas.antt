@@ -1,5 +1,5 @@
 -- What one field of a live row stores, as contracts see it.
-use Rattle.std.proofs.Common.{◌≡◌, ℕ, ◌+◌, ◌<◌, ◌≤◌, ◌⊎◌, inl, inr, nat_le, Bool, true, false, cond, Option, Some, None, is_some, List, [], ◌∷◌, ◌++◌, length, map, take, drop, get_or, refl, sym, ap, ◌∙◌, subst, arith, if◌then◌else◌}
+use Rattle.std.proofs.Common.{◌≡◌, ℕ, ◌+◌, ◌<◌, ◌≤◌, ◌⊎◌, inl, inr, nat_le, Bool, true, false, cond, Option, Some, None, is_some, unwrap_or, List, [], ◌∷◌, ◌++◌, length, map, take, drop, get_or, refl, sym, ap, ◌∙◌, subst, arith, if◌then◌else◌}
 use Rattle.std.specs.List.{filter, range_with_len}
 use Rattle.std.proofs.lemmas.Bool.{cases_lt}
 use Rattle.std.proofs.lemmas.List.Elements.{filter-append}
@@ -195,6 +195,16 @@ number_free p n before now so front all = all ∙ (front ∙ (sym (append-nil (f
 live_same : (a : ArenaModel) (columns : ℕ) (fields : List Extra) (o : Option Record) → is_some (live_in a columns fields o) ≡ is_some o
 live_same a columns fields None = refl
 live_same a columns fields (Some r) = refl
+
+pub live_test : (a : ArenaModel) (columns : ℕ) (fields : List Extra) (records : RecordsModel) (rows : List (Option LiveRow)) (n : ℕ) → rows_in a columns fields records.records ≡ rows → is_some (record_in records n) ≡ is_some (get_or rows n None)
+live_test a columns fields records rows n same =
+    sym (live_same a columns fields (record_in records n))
+    ∙ (sym (ap is_some (rows_at a columns fields records.records n)) ∙ ap (λ (l : List (Option LiveRow)). is_some (get_or l n None)) same)
+
+-- a row that is there is the one that is found
+pub found : (o : Option LiveRow) (else_row : LiveRow) → is_some o ≡ true → o ≡ Some (unwrap_or o else_row)
+found None else_row is = absurd (cc)
+found (Some r) else_row is = refl
 
 filter_as : (p q : ℕ → Bool) (xs : List ℕ) → ((n : ℕ) → p n ≡ q n) → filter p xs ≡ filter q xs
 filter_as p q [] same = refl

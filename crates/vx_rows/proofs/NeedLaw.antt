@@ -1,16 +1,13 @@
--- A put of all rows of a batch takes at most the batch's need of chunks.
-use Rattle.std.proofs.Common.{inl, inr, ◌≡◌, ℕ, ◌+◌, ◌-◌, ◌*◌, ◌/◌, ◌≤◌, Bool, cond, List, [], ◌∷◌, length, map, All, refl, sym, ap, ◌∙◌, subst, arith}
+-- As many numbers more as a batch has rows, and blocks for its texts, take at most the batch's need of chunks.
+use Rattle.std.proofs.Common.{inl, inr, ◌≡◌, ℕ, ◌+◌, ◌-◌, ◌*◌, ◌/◌, ◌≤◌, Bool, cond, List, [], ◌∷◌, length, map, All, refl, sym, ap, ◌∙◌, arith}
 use Rattle.std.specs.List.{sum_by, range_with_len}
 use Rattle.std.proofs.lemmas.Bool.{cases_eq, ne_eqb}
 use Rattle.std.proofs.lemmas.List.Elements.{All-head, All-tail}
-use Rattle.std.proofs.lemmas.List.FromFn.{length-range_with_len, fill_by_all}
+use Rattle.std.proofs.lemmas.List.FromFn.{fill_by_all}
 use Rattle.std.proofs.lemmas.List.Sums.{sum_by-cons}
 use Rattle.std.proofs.lemmas.Nat.{le-div}
 use Rattle.vx_arena.specs.Chunks.{Chunks, held_by}
 use Rattle.vx_arena.specs.Part.{PaysMore, Pays, none_made}
-use Rattle.vx_arena.proofs.Paying.{pays_kept, pays_then, pays_cost}
-use Rattle.vx_records.specs.Record.{chunk_bytes}
-use Rattle.vx_records.specs.Adding.{bytes_of}
 use Rattle.vx_records.proofs.Needing.{chunks_more}
 use Rattle.vx_value.specs.declared.value.Value.{Value}
 use Rattle.vx_value.specs.declared.value.Value.TheVariants as value
@@ -18,9 +15,11 @@ use Rattle.vx_value.specs.Row.{value_at}
 use Rattle.vx_vector.specs.Column.{Column}
 use Rattle.vx_vector.specs.Batch.{row_of}
 use Rattle.vx_rows.specs.declared.fields.Extra.{Extra}
-use Rattle.vx_rows.specs.Layout.{body_len, row_len}
+use Rattle.vx_rows.specs.Batches.{cost_of_rows}
+use Rattle.vx_rows.specs.Container.{ContainerModel}
+use Rattle.vx_rows.specs.Layout.{body_len, fields_of, row_len}
 use Rattle.vx_rows.specs.Texts.{text_cost}
-use Rattle.vx_rows.specs.Need.{row_need, column_cost, texts_cost, text_need, need_of, Held, held_bytes, PutsRows}
+use Rattle.vx_rows.specs.Need.{row_need, column_cost, container_bytes, texts_cost, text_need, need_of}
 
 -- ---- sums
 
@@ -47,15 +46,15 @@ sum_by-map f g (x ∷ xs) =
 
 -- ---- what the rows of a batch cost is what its columns cost
 
-abbrev pub row_cost : List Column → ℕ → ℕ
-row_cost columns at = sum_by text_cost (row_of columns at)
-
 column_by_rows : (values : List Value) (rows : ℕ) → length values ≡ rows → sum_by (λ at. text_cost (value_at values at)) (range_with_len 0 rows) ≡ sum_by text_cost values
 column_by_rows values rows long =
     let all : values ≡ map (value_at values) (range_with_len 0 rows) = fill_by_all (value_at values) values rows value.Null long (λ k lt. refl) in
     sym (sum_by-map text_cost (value_at values) (range_with_len 0 rows)) ∙ ap (sum_by text_cost) (sym all)
 
-pub cost_by_rows : (columns : List Column) (rows : ℕ) → All (λ c. length c.values ≡ rows) columns → sum_by (row_cost columns) (range_with_len 0 rows) ≡ texts_cost columns
+abbrev row_cost : List Column → ℕ → ℕ
+row_cost columns at = sum_by text_cost (row_of columns at)
+
+pub cost_by_rows : (columns : List Column) (rows : ℕ) → All (λ c. length c.values ≡ rows) columns → cost_of_rows columns (range_with_len 0 rows) ≡ texts_cost columns
 cost_by_rows [] rows even = sum_of_none (range_with_len 0 rows)
 cost_by_rows (c ∷ columns) rows even =
     let split : sum_by (row_cost (c ∷ columns)) (range_with_len 0 rows) ≡ sum_by (λ at. text_cost (value_at c.values at) + row_cost columns at) (range_with_len 0 rows) =
@@ -83,45 +82,16 @@ texts_within before after cost pays =
           rw need (omega (arith, held, parts))
     ]
 
--- ---- rows one after another
-
-pub puts_pay : (columns : List Column) (rows : List ℕ) (before after : Held) → PutsRows columns rows before after → Pays before.chunks after.chunks (sum_by (row_cost columns) rows)
-puts_pay columns [] before after puts = subst (λ (h : Held). Pays before.chunks h.chunks 0) (sym puts) (pays_kept before.chunks before.chunks refl (λ n l s. s))
-puts_pay columns (at ∷ rest) before after puts =
-    pays_cost before.chunks after.chunks (row_cost columns at + sum_by (row_cost columns) rest) (sum_by (row_cost columns) (at ∷ rest)) (sym (sum_by-cons (row_cost columns) at rest))
-    (pays_then before.chunks puts.0.chunks after.chunks (row_cost columns at) (sum_by (row_cost columns) rest) puts.1.pays (puts_pay columns rest puts.0 after puts.2))
-
-pub puts_few : (columns : List Column) (rows : List ℕ) (before after : Held) → PutsRows columns rows before after → length after.records.records ≤ length before.records.records + length rows
-puts_few columns [] before after puts = let same : length after.records.records ≡ length before.records.records = ap (λ (h : Held). length h.records.records) puts in omega (arith, same)
-puts_few columns (at ∷ rest) before after puts =
-    let one : length puts.0.records.records ≤ length before.records.records + 1 = puts.1.adds.count in
-    let others : length after.records.records ≤ length puts.0.records.records + length rest = puts_few columns rest puts.0 after puts.2 in
-    omega (arith, one, others)
-
-pub puts_len : (columns : List Column) (rows : List ℕ) (before after : Held) → PutsRows columns rows before after → after.records.len ≡ before.records.len
-puts_len columns [] before after puts = ap (λ (h : Held). h.records.len) puts
-puts_len columns (at ∷ rest) before after puts = puts_len columns rest puts.0 after puts.2 ∙ puts.1.adds.len
-
 -- ---- the need
 
 -- at most so many numbers more, and blocks of this cost, take at most the need
-pub need_covers : (fields : List Extra) (columns : List Column) (rows : ℕ) (before after : Held) → row_len fields ≤ 4096 → before.records.len ≡ body_len fields → after.records.len ≡ before.records.len → length after.records.records ≤ length before.records.records + rows → Pays before.chunks after.chunks (texts_cost columns) → held_bytes after ≤ held_bytes before + need_of fields columns rows
-need_covers fields columns rows before after most len kept few pays =
-    let count : ℕ = length after.records.records in
-    let short : before.records.len + 8 ≤ 4096 = omega (arith, most, len) in
-    let more : chunk_bytes before.records.len (length after.records.records) ≤ bytes_of before.records + chunk_bytes before.records.len rows = chunks_more before.records.len (length before.records.records) rows (length after.records.records) short few in
-    let now : bytes_of after.records ≡ chunk_bytes before.records.len (length after.records.records) = ap (λ (n : ℕ). chunk_bytes n (length after.records.records)) kept in
-    let alone : chunk_bytes before.records.len rows ≡ row_need fields rows = ap (λ (n : ℕ). chunk_bytes n rows) len in
-    let texts : held_by after.chunks ≤ held_by before.chunks + text_need (texts_cost columns) = texts_within before.chunks after.chunks (texts_cost columns) pays in
-    four (bytes_of after.records) (bytes_of before.records) (row_need fields rows) (held_by after.chunks) (held_by before.chunks) (text_need (texts_cost columns)) (omega (arith, more, now, alone)) texts
+pub need_covers : (fields : List Extra) (columns : List Column) (rows : ℕ) (before after : ContainerModel) → row_len fields ≤ 4096 → fields_of before.kinds before.extras ≡ fields → fields_of after.kinds after.extras ≡ fields → length after.rows ≤ length before.rows + rows → Pays before.arena.chunks after.arena.chunks (texts_cost columns) → container_bytes after ≤ container_bytes before + need_of fields columns rows
+need_covers fields columns rows before after most was is few pays =
+    let more : row_need fields (length after.rows) ≤ row_need fields (length before.rows) + row_need fields rows = chunks_more (body_len fields) (length before.rows) rows (length after.rows) (omega (arith, most)) few in
+    let rows_were : row_need (fields_of before.kinds before.extras) (length before.rows) ≡ row_need fields (length before.rows) = ap (λ (f : List Extra). row_need f (length before.rows)) was in
+    let rows_are : row_need (fields_of after.kinds after.extras) (length after.rows) ≡ row_need fields (length after.rows) = ap (λ (f : List Extra). row_need f (length after.rows)) is in
+    let texts : held_by after.arena.chunks ≤ held_by before.arena.chunks + text_need (texts_cost columns) = texts_within before.arena.chunks after.arena.chunks (texts_cost columns) pays in
+    four (row_need (fields_of after.kinds after.extras) (length after.rows)) (row_need (fields_of before.kinds before.extras) (length before.rows)) (row_need fields rows) (held_by after.arena.chunks) (held_by before.arena.chunks) (text_need (texts_cost columns)) (omega (arith, more, rows_were, rows_are)) texts
   where
     four : (a b c d e f : ℕ) → a ≤ b + c → d ≤ e + f → a + d ≤ b + e + (c + f)
     four a b c d e f one two = omega (arith, one, two)
-
--- a put of all rows of a batch takes at most its need
-pub put_within : (fields : List Extra) (columns : List Column) (rows : ℕ) (before after : Held) → row_len fields ≤ 4096 → before.records.len ≡ body_len fields → All (λ c. length c.values ≡ rows) columns → PutsRows columns (range_with_len 0 rows) before after → held_bytes after ≤ held_bytes before + need_of fields columns rows
-put_within fields columns rows before after most len even puts =
-    let many : length (range_with_len 0 rows) ≡ rows = length-range_with_len 0 rows in
-    let few : length after.records.records ≤ length before.records.records + length (range_with_len 0 rows) = puts_few columns (range_with_len 0 rows) before after puts in
-    need_covers fields columns rows before after most len (puts_len columns (range_with_len 0 rows) before after puts) (omega (arith, many, few))
-    (pays_cost before.chunks after.chunks (sum_by (row_cost columns) (range_with_len 0 rows)) (texts_cost columns) (cost_by_rows columns rows even) (puts_pay columns (range_with_len 0 rows) before after puts))

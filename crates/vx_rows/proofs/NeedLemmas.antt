@@ -1,20 +1,22 @@
 -- The costs of texts, and that a put of all rows of a batch takes at most the batch's need.
-use Rattle.std.proofs.Common.{◌≡◌, ◌≢◌, ℕ, zero, suc, ◌+◌, ◌-◌, ◌*◌, ◌/◌, ◌<◌, ◌≤◌, false, cond, leb, List, length, get_or, take, refl, sym, subst, arith}
+use Rattle.std.proofs.Common.{◌≡◌, ◌≢◌, ℕ, zero, suc, ◌+◌, ◌-◌, ◌*◌, ◌/◌, ◌<◌, ◌≤◌, false, cond, leb, List, All, length, get_or, take, refl, sym, subst, arith}
 use Rattle.std.specs.List.{sum_by}
 use Rattle.std.proofs.lemmas.Bool.{ne_eqb, lt-leb}
 use Rattle.std.proofs.lemmas.List.{length-map}
-use Rattle.std.proofs.lemmas.List.Sums.{sum_by_more, sum_by-take-le}
+use Rattle.std.proofs.lemmas.List.Sums.{sum_by_more, sum_by-le, sum_by-take-le}
 use Rattle.vx_arena.specs.Free.{class_len}
 use Rattle.vx_arena.specs.Part.{class_for}
 use Rattle.vx_arena.specs.Text.{block_bytes, cost_of}
 use Rattle.vx_value.specs.declared.value.Kind.{Kind}
 use Rattle.vx_value.specs.declared.value.Kind.TheVariants as kind
-use Rattle.vx_vector.specs.Column.{Column}
+use Rattle.vx_value.specs.declared.value.Value.{Value}
+use Rattle.vx_value.specs.declared.value.Value.TheVariants as value
+use Rattle.vx_vector.specs.Column.{Column, IsNoText}
 use Rattle.vx_vector.specs.Batch.{kinds_of}
 use Rattle.vx_rows.specs.declared.fields.Extra.{Extra}
 use Rattle.vx_rows.specs.declared.fields.Extra.TheVariants as extra
 use Rattle.vx_rows.specs.Layout.{cell_len, field_len, field_at, body_len}
-use Rattle.vx_rows.specs.Texts.{HasColumns}
+use Rattle.vx_rows.specs.Texts.{HasColumns, text_cost}
 
 -- ---- what the code computes
 
@@ -34,6 +36,18 @@ pub cost_is : (len rest : ℕ) → 12 < len → rest ≡ block_bytes (len - (len
 cost_is len rest long is =
     let test : leb len 12 ≡ false = lt-leb len 12 long in
     rw test (rw is (sym (long_cost len long)))
+
+-- what is no text has no blocks
+no_cost : (v : Value) → IsNoText v → text_cost v ≤ 0
+no_cost value.Null no_text = omega arith
+no_cost (value.Bool b) no_text = omega arith
+no_cost (value.Int n) no_text = omega arith
+no_cost (value.Text t) no_text = absurd no_text
+
+pub no_texts_cost : (values : List Value) → All IsNoText values → 0 ≡ sum_by text_cost values
+no_texts_cost values no_texts =
+    let most : sum_by text_cost values ≤ length values * 0 = sum_by-le text_cost 0 values (λ k d less. no_cost (get_or values k d) (no_texts k d less)) in
+    omega (arith, most)
 
 -- columns are few, since each has a slot
 slot_least : (k : Kind) → 8 ≤ cell_len k

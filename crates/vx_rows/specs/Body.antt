@@ -1,9 +1,10 @@
 -- A row's body: what each of its fields stores. A field is null by its null bit, or stores what its own bytes spell.
-use Rattle.std.specs.Prelude.{◌≡◌, ℕ, ℤ, ◌/◌, ◌%◌, ◌^◌, ◌<◌, ◌≤◌, nat_le, Bool, true, false, List, [], ◌∷◌, length, map, take, drop, slice_index, if◌then◌else◌, FitsSigned, ⊤}
+use Rattle.std.specs.Prelude.{◌≡◌, ℕ, ℤ, ◌/◌, ◌%◌, ◌^◌, ◌<◌, ◌≤◌, nat_le, Bool, true, false, List, [], ◌∷◌, length, map, take, drop, slice_index, slice_set, if◌then◌else◌, FitsSigned, ⊤}
 use Rattle.std.specs.List.{range_with_len}
 use Rattle.std.specs.Int.{w64}
 use Rattle.vx_raw.specs.declared.place.Place.{Place}
 use Rattle.vx_raw.specs.Region.{written}
+use Rattle.vx_records.specs.Record.{RecordsModel, record_at, with_record}
 use Rattle.vx_value.specs.declared.value.Kind.{Kind}
 use Rattle.vx_value.specs.declared.value.Kind.TheVariants as kind
 use Rattle.vx_rows.specs.declared.fields.Extra.{Extra}
@@ -103,3 +104,9 @@ pub record Puts (fields : List Extra) (before after : List ℕ) (which : ℕ) (s
   pub byte : ℕ
   pub bit : SetsBit (slice_index before (which / 8)) byte (which % 8) (is_null stored)
   pub is : after ≡ written (written before (which / 8) (byte ∷ [])) (place_of fields which) (spelled stored)
+
+-- a field of a record stores this, and all others what they did; no other record has changed
+pub record SetsField (fields : List Extra) (before after : RecordsModel) (number which : ℕ) (stored : Stored) : Type 0 where
+  pub body : List ℕ
+  pub is : after ≡ with_record before number (record (record_at before number) { body = body })
+  pub stores : all_stored fields body ≡ slice_set (all_stored fields (record_at before number).body) which stored

@@ -100,7 +100,7 @@ fn put_bytes(body: &mut [u8], layout: &Layout, which: u32, stored: FieldRef<'_>)
 }
 
 /// The byte of null bits with this field's bit set or cleared.
-fn null_byte(body: &[u8], which: u32, null: bool) -> u8
+pub(crate) fn null_byte(body: &[u8], which: u32, null: bool) -> u8
     requires { which / 8 < length body.now }
     ensures { SetsBit (slice_index body.now (which / 8)) result (which % 8) null }
 {

@@ -12,7 +12,8 @@ ghost use Rattle.vx_rows.specs.Texts.{blocks_of_value, text_cost};
 ghost use Rattle.vx_value.specs.Value.{owned, IsLawful};
 ghost use Rattle.vx_rows.specs.Container.{AddsRow, Changes, Gives, HasBytes, IsBytes, TakesValue, blocks_of_held, with_held, IsSlot, bytes, cell, held_at, key_values, IsLive, Takes, TakesBack, blocks_of_row, live, live_numbers, new_row, with_row};
 
-use crate::body::{bytes_at, empty_body, field, put};
+use crate::body::{bytes_at, empty_body, field};
+use crate::editing::put_in;
 use crate::fields::Extra;
 use crate::layout::Layout;
 use crate::need;
@@ -126,6 +127,16 @@ impl RowContainer {
         self.records.held() + self.arena.held()
     }
 
+    /// How many bytes a row has, with its head.
+    #[inline]
+    pub fn row_bytes(&self) -> u32
+        ensures is { result ≡ row_len (fields_of self.now.kinds self.now.extras) }
+        ensures most { result ≤ 4096 }
+    {
+        let _columns = &self.columns;
+        8 + self.layout.bytes()
+    }
+
     /// How many bytes of chunks a put of all rows of a batch takes at most.
     pub fn need_of(&self, batch: &Batch) -> u64
         requires { kinds_of batch.now.columns.items ≡ self.now.kinds }
@@ -140,6 +151,15 @@ impl RowContainer {
         ensures { result.now ≡ self.now.arena }
     {
         &self.arena
+    }
+
+    /// Whether a row has this number: what the calls on one row ask for.
+    #[inline]
+    pub fn is_live(&self, row: u32) -> bool
+        ensures { IsTrue result ↔ IsLive self.now row }
+    {
+        let _columns = &self.columns;
+        self.records.is_live(row)
     }
 
     /// The number that a row leads to.
@@ -269,11 +289,9 @@ impl RowContainer {
         let _count = self.layout.count();
         let place = self.columns + which;
         let stored = store(&mut self.arena, value)?;
-        self.scratch.copy_from_slice(self.records.body(row));
-        let old = field(self.scratch.as_slice(), &self.layout, place);
+        let old = field(self.records.body(row), &self.layout, place);
         give(&mut self.arena, old);
-        put(self.scratch.as_mut_slice(), &self.layout, place, stored);
-        self.records.write(row, 0, self.scratch.as_slice());
+        put_in(&mut self.records, &self.layout, row, place, stored);
         Ok(())
     }
 

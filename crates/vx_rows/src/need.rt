@@ -61,12 +61,16 @@ fn texts_cost(columns: &[Vector], rows: u32) -> u64
     total
 }
 
-/// The bytes of the blocks of a column's texts.
+/// The bytes of the blocks of a column's texts; a column of another kind isn't read.
+#[tactic(auto, using(crate::proofs::NeedLemmas::no_texts_cost))]
 fn column_cost(column: &Vector, rows: u32) -> u64
     requires { length column.now.values ≡ rows }
     ensures is { result ≡ column_cost column.now }
     ensures most { result ≤ 2 ^ 49 }
 {
+    if !column.holds_texts() {
+        return 0;
+    }
     let mut total = 0;
     for row in 0..rows {
         total += value_cost(column.get(row));

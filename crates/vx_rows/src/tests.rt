@@ -1,6 +1,7 @@
 ghost use Rattle.std.specs.Prelude.{◌≡◌, [], ◌∷◌, IfOk};
 ghost use Rattle.vx_value.specs.declared.value.Kind.TheVariants as kinds;
 ghost use Rattle.vx_vector.specs.Batch.{kinds_of};
+ghost use Rattle.vx_rows.specs.Container.{IsLive};
 
 use crate::{Extra, RowContainer};
 use std::alloc::{AllocError, Global};
@@ -20,6 +21,16 @@ fn one_text(alloc: Global, words: &str) -> Result<Batch, AllocError>
     let column = Vector::constant(alloc, Kind::Text, &value, 1)?;
     let columns = Vec::from_array(alloc, [column])?;
     Ok(Batch { columns, rows: 1 })
+}
+
+/// Adds a row with this text.
+fn add_text(rows: &mut RowContainer, alloc: Global, words: &str) -> Result<u32, AllocError>
+    requires { rows.old.kinds ≡ kinds.Text ∷ [] }
+    ensures kinds { rows.new.kinds ≡ kinds.Text ∷ [] }
+    ensures there { IfOk result (λ number. IsLive rows.new number) }
+{
+    let batch = one_text(alloc, words)?;
+    rows.add(&batch, 0)
 }
 
 /// One row with an int or a null.
@@ -98,5 +109,20 @@ fn an_old_text_of_a_slot_is_given_back(rt: HostRuntime) -> Result<(), Fail> {
     assert!(rt; matches!(value.as_ref(), ValueRef::Text(b"thirteen byte")));
     rows.erase(row);
     assert_eq!(rt; rows.arena().given(), 2);
+    Ok(())
+}
+
+#[test]
+fn texts_past_12_bytes_take_blocks_and_give_them_back(rt: HostRuntime) -> Result<(), Fail> {
+    let mut rows = RowContainer::new(rt.alloc(), &[Kind::Text], &[])?;
+    add_text(&mut rows, rt.alloc(), "twelve bytes")?;
+    assert_eq!(rt; rows.arena().taken(), 0);
+    add_text(&mut rows, rt.alloc(), "thirteen byte")?;
+    let longest = "a".repeat(rt.alloc(), 65_535)?;
+    let third = add_text(&mut rows, rt.alloc(), longest.as_str())?;
+    assert_eq!(rt; rows.arena().taken(), 34);
+    assert_eq!(rt; rows.bytes_held(), 135_168);
+    rows.erase(third);
+    assert_eq!(rt; rows.arena().given(), 33);
     Ok(())
 }

@@ -136,7 +136,7 @@ fn long_value(alloc: Global, arena: &Arena, len: u32, place: Place) -> Result<Va
 {
     let mut bytes = Vec::with_capacity(alloc, len as usize)?;
     arena.read_text(place, u64::from(len), &mut bytes)?;
-    Ok(Value::Text(Txt::of(alloc, bytes.as_slice())?))
+    Ok(Value::Text(Txt::from_bytes(bytes)))
 }
 
 /// The values of the first so many fields.

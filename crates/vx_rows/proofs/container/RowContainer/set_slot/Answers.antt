@@ -1,17 +1,16 @@
-use Rattle.std.proofs.Common.{◌≡◌, ◌+◌, get_or, set, length, refl, sym, ap, ◌∙◌, subst, List, ℕ}
-use Rattle.vx_records.specs.Record.{record_at, with_record}
+use Rattle.std.proofs.Common.{◌≡◌, ◌+◌, get_or, set, refl, sym, ap, ◌∙◌, subst, List, ℕ}
 use Rattle.vx_arena.specs.Text.{ArenaModel}
 use Rattle.vx_value.specs.Value.{owned}
 use Rattle.vx_rows.specs.declared.fields.Extra.TheVariants as extra
 use Rattle.vx_rows.specs.declared.fields.Extra.{Extra}
 use Rattle.vx_rows.specs.Body.{all_stored, seen, FitsField}
-use Rattle.vx_rows.specs.Layout.{body_len, field_at}
+use Rattle.vx_rows.specs.Layout.{field_at}
 use Rattle.vx_rows.specs.Texts.{text_cost, blocks_of_value}
-use Rattle.vx_rows.specs.Container.{ContainerModel, Changes, IsContainer, TakesBack, TakesValue, blocks_of_held, extras_in, held_at, live}
-use Rattle.vx_rows.proofs.AccumulatorLemmas.{fits_value, old_kept, slot_changes, slot_container, slot_seen, takes_slot, written_over}
+use Rattle.vx_rows.specs.Container.{ContainerModel, Changes, TakesBack, TakesValue, blocks_of_held, extras_in, held_at, live}
+use Rattle.vx_rows.proofs.AccumulatorLemmas.{fits_value, old_kept, slot_changes, slot_container, slot_seen, takes_slot}
 use Rattle.vx_rows.proofs.FieldLemmas.{slot_field}
 use Rattle.vx_rows.proofs.RowLemmas.{live_parts, set_there}
-use Rattle.vx_rows.proofs.ContainerLemmas.{kept_count, kept_seen, own_body, through}
+use Rattle.vx_rows.proofs.ContainerLemmas.{kept_count, kept_seen, own_body}
 use Rattle.vx_rows.proofs.ResultLemmas.{on_err}
 use Rattle.std.proofs.lemmas.List.{get_or-drop}
 use Rattle.vx_rows.proofs.container.RowContainer.set_slot.Goals as goal
@@ -35,12 +34,11 @@ give-requires c =
     let extras : get_or (extras_in s.columns s.layout) c.args.which (extra.Bytes 0) ≡ get_or c.args.self.now.extras c.args.which (extra.Bytes 0) = ap (λ (m : ContainerModel). get_or m.extras c.args.which (extra.Bytes 0)) c.self.view_is in
     let takes : TakesValue (get_or (extras_in s.columns s.layout) c.args.which (extra.Bytes 0)) (owned c.args.value) = subst (λ (e : Extra). TakesValue e (owned c.args.value)) (sym extras) c.requires.kind in
     let f = slot_field s.columns s.layout c.args.which (takes_slot (get_or (extras_in s.columns s.layout) c.args.which (extra.Bytes 0)) (owned c.args.value) takes) in
-    let copied : c.copy_from_slice.new.self.items ≡ parts.r.body = c.copy_from_slice.ensures.items ∙ own_body s.arena s.arena s.columns s.layout s.records s.records s.empty.items s.scratch.items c.args.row row c.body.result.now c.self.invariant parts c.body.ensures.is in
-    let old_body : c.as_slice.result.now ≡ parts.r.body = c.as_slice.ensures.value ∙ copied in
-    old_kept s.arena c.store.new.arena s.columns s.layout s.records s.empty.items s.scratch.items c.args.row row c.args.which (owned c.args.value) (seen c.in_ok-stored.stored) (seen c.field-old.result) c.as_slice.result.now c.self.invariant parts f c.in_ok-stored.ensures.ok old_body c.field-old.ensures
+    let old_body : c.body.result.now ≡ parts.r.body = own_body s.arena s.arena s.columns s.layout s.records s.records s.empty.items s.scratch.items c.args.row row c.body.result.now c.self.invariant parts c.body.ensures.is in
+    old_kept s.arena c.store.new.arena s.columns s.layout s.records s.empty.items s.scratch.items c.args.row row c.args.which (owned c.args.value) (seen c.in_ok-stored.stored) (seen c.field-old.result) c.body.result.now c.self.invariant parts f c.in_ok-stored.ensures.ok old_body c.field-old.ensures
 
-pub put-requires-clause-fits : goal.put-requires-clause-fits
-put-requires-clause-fits c =
+pub put_in-requires-clause-fits : goal.put_in-requires-clause-fits
+put_in-requires-clause-fits c =
     let s = c.self.inside in
     let extras : get_or (extras_in s.columns s.layout) c.args.which (extra.Bytes 0) ≡ get_or c.args.self.now.extras c.args.which (extra.Bytes 0) = ap (λ (m : ContainerModel). get_or m.extras c.args.which (extra.Bytes 0)) c.self.view_is in
     let takes : TakesValue (get_or (extras_in s.columns s.layout) c.args.which (extra.Bytes 0)) (owned c.args.value) = subst (λ (e : Extra). TakesValue e (owned c.args.value)) (sym extras) c.requires.kind in
@@ -57,18 +55,11 @@ invariant_of-self-2 c =
     let extras : get_or (extras_in s.columns s.layout) c.args.which (extra.Bytes 0) ≡ get_or c.args.self.now.extras c.args.which (extra.Bytes 0) = ap (λ (m : ContainerModel). get_or m.extras c.args.which (extra.Bytes 0)) c.self.view_is in
     let takes : TakesValue (get_or (extras_in s.columns s.layout) c.args.which (extra.Bytes 0)) (owned c.args.value) = subst (λ (e : Extra). TakesValue e (owned c.args.value)) (sym extras) c.requires.kind in
     let f = slot_field s.columns s.layout c.args.which (takes_slot (get_or (extras_in s.columns s.layout) c.args.which (extra.Bytes 0)) (owned c.args.value) takes) in
-    let copied : c.copy_from_slice.new.self.items ≡ parts.r.body = c.copy_from_slice.ensures.items ∙ own_body s.arena s.arena s.columns s.layout s.records s.records s.empty.items s.scratch.items c.args.row row c.body.result.now c.self.invariant parts c.body.ensures.is in
-    let old_body : c.as_slice.result.now ≡ parts.r.body = c.as_slice.ensures.value ∙ copied in
+    let old_body : c.body.result.now ≡ parts.r.body = own_body s.arena s.arena s.columns s.layout s.records s.records s.empty.items s.scratch.items c.args.row row c.body.result.now c.self.invariant parts c.body.ensures.is in
     let field_is : field_at s.layout (s.columns + c.args.which) ≡ get_or (extras_in s.columns s.layout) c.args.which (extra.Bytes 0) = sym (get_or-drop s.columns s.layout c.args.which (extra.Bytes 0)) in
     let fits = subst (λ (e : Extra). TakesValue e (owned c.args.value)) (sym field_is ∙ f.is) takes in
-    let len : length c.put.new.body ≡ c.copy_from_slice.new.self.len = c.put.ensures.len ∙ c.as_mut_slice.ensures.len in
-    let over : c.as_slice-2.result.now ≡ c.put.new.body = c.as_slice-2.ensures.value ∙ through c.copy_from_slice.new.self.len c.put.new.body c.copy_from_slice.new.self.items len in
-    let many : length c.put.new.body ≡ body_len s.layout = c.put.ensures.len ∙ (ap length (c.as_mut_slice.ensures.value ∙ c.copy_from_slice.ensures.items) ∙ (c.body.ensures.len ∙ c.self.invariant.len)) in
-    let all : length c.as_slice-2.result.now ≡ length (record_at s.records c.args.row).body = ap length over ∙ (many ∙ (sym (c.body.ensures.len ∙ c.self.invariant.len) ∙ ap length c.body.ensures.is)) in
-    let put : all_stored s.layout c.as_slice-2.result.now ≡ _ = ap (all_stored s.layout) over ∙ (c.put.ensures.is ∙ ap (λ (b : List ℕ). set (all_stored s.layout b) (s.columns + c.args.which) (seen c.in_ok-stored.stored)) (c.as_mut_slice.ensures.value ∙ sym c.as_slice.ensures.value)) in
-    let written_is : c.write.new.self ≡ with_record s.records c.args.row (record (record_at s.records c.args.row) { body = c.as_slice-2.result.now }) = c.write.ensures.set ∙ ap (λ (b : List ℕ). with_record s.records c.args.row (record (record_at s.records c.args.row) { body = b })) (written_over (record_at s.records c.args.row).body c.as_slice-2.result.now all) in
-    subst (λ (b : List ℕ). IsContainer s.columns s.layout c.write.new.self c.give.new.arena s.empty.items b) (sym (through c.copy_from_slice.new.self.len c.put.new.body c.copy_from_slice.new.self.items len))
-    (slot_container s.arena c.store.new.arena c.give.new.arena s.columns s.layout s.records c.write.new.self s.empty.items s.scratch.items c.args.row row c.args.which (owned c.args.value) (seen c.in_ok-stored.stored) (seen c.field-old.result) c.as_slice.result.now c.as_slice-2.result.now c.self.invariant parts f fits c.in_ok-stored.ensures.ok c.give.ensures old_body c.field-old.ensures put written_is c.put.new.body many)
+    let put = c.put_in.ensures.stores ∙ ap (λ (b : List ℕ). set (all_stored s.layout b) (s.columns + c.args.which) (seen c.in_ok-stored.stored)) (sym c.body.ensures.is) in
+    slot_container s.arena c.store.new.arena c.give.new.arena s.columns s.layout s.records c.put_in.new.records s.empty.items s.scratch.items c.args.row row c.args.which (owned c.args.value) (seen c.in_ok-stored.stored) (seen c.field-old.result) c.body.result.now c.put_in.ensures.body c.self.invariant parts f fits c.in_ok-stored.ensures.ok c.give.ensures old_body c.field-old.ensures put c.put_in.ensures.is
 
 pub returns-clause-ok : goal.returns-clause-ok
 returns-clause-ok c =
@@ -79,17 +70,11 @@ returns-clause-ok c =
     let extras : get_or (extras_in s.columns s.layout) c.args.which (extra.Bytes 0) ≡ get_or c.args.self.now.extras c.args.which (extra.Bytes 0) = ap (λ (m : ContainerModel). get_or m.extras c.args.which (extra.Bytes 0)) c.self.view_is in
     let takes : TakesValue (get_or (extras_in s.columns s.layout) c.args.which (extra.Bytes 0)) (owned c.args.value) = subst (λ (e : Extra). TakesValue e (owned c.args.value)) (sym extras) c.requires.kind in
     let f = slot_field s.columns s.layout c.args.which (takes_slot (get_or (extras_in s.columns s.layout) c.args.which (extra.Bytes 0)) (owned c.args.value) takes) in
-    let copied : c.copy_from_slice.new.self.items ≡ parts.r.body = c.copy_from_slice.ensures.items ∙ own_body s.arena s.arena s.columns s.layout s.records s.records s.empty.items s.scratch.items c.args.row row c.body.result.now c.self.invariant parts c.body.ensures.is in
-    let old_body : c.as_slice.result.now ≡ parts.r.body = c.as_slice.ensures.value ∙ copied in
+    let old_body : c.body.result.now ≡ parts.r.body = own_body s.arena s.arena s.columns s.layout s.records s.records s.empty.items s.scratch.items c.args.row row c.body.result.now c.self.invariant parts c.body.ensures.is in
     let field_is : field_at s.layout (s.columns + c.args.which) ≡ get_or (extras_in s.columns s.layout) c.args.which (extra.Bytes 0) = sym (get_or-drop s.columns s.layout c.args.which (extra.Bytes 0)) in
     let fits = subst (λ (e : Extra). TakesValue e (owned c.args.value)) (sym field_is ∙ f.is) takes in
-    let len : length c.put.new.body ≡ c.copy_from_slice.new.self.len = c.put.ensures.len ∙ c.as_mut_slice.ensures.len in
-    let over : c.as_slice-2.result.now ≡ c.put.new.body = c.as_slice-2.ensures.value ∙ through c.copy_from_slice.new.self.len c.put.new.body c.copy_from_slice.new.self.items len in
-    let many : length c.put.new.body ≡ body_len s.layout = c.put.ensures.len ∙ (ap length (c.as_mut_slice.ensures.value ∙ c.copy_from_slice.ensures.items) ∙ (c.body.ensures.len ∙ c.self.invariant.len)) in
-    let all : length c.as_slice-2.result.now ≡ length (record_at s.records c.args.row).body = ap length over ∙ (many ∙ (sym (c.body.ensures.len ∙ c.self.invariant.len) ∙ ap length c.body.ensures.is)) in
-    let put : all_stored s.layout c.as_slice-2.result.now ≡ _ = ap (all_stored s.layout) over ∙ (c.put.ensures.is ∙ ap (λ (b : List ℕ). set (all_stored s.layout b) (s.columns + c.args.which) (seen c.in_ok-stored.stored)) (c.as_mut_slice.ensures.value ∙ sym c.as_slice.ensures.value)) in
-    let written_is : c.write.new.self ≡ with_record s.records c.args.row (record (record_at s.records c.args.row) { body = c.as_slice-2.result.now }) = c.write.ensures.set ∙ ap (λ (b : List ℕ). with_record s.records c.args.row (record (record_at s.records c.args.row) { body = b })) (written_over (record_at s.records c.args.row).body c.as_slice-2.result.now all) in
-    slot_seen s.arena c.store.new.arena c.give.new.arena s.columns s.layout s.records c.write.new.self s.empty.items s.scratch.items c.args.row row c.args.which (owned c.args.value) (seen c.in_ok-stored.stored) (seen c.field-old.result) c.as_slice.result.now c.as_slice-2.result.now c.self.invariant parts f fits c.in_ok-stored.ensures.ok c.give.ensures old_body c.field-old.ensures put written_is c.args.self.now.rows rows
+    let put = c.put_in.ensures.stores ∙ ap (λ (b : List ℕ). set (all_stored s.layout b) (s.columns + c.args.which) (seen c.in_ok-stored.stored)) (sym c.body.ensures.is) in
+    slot_seen s.arena c.store.new.arena c.give.new.arena s.columns s.layout s.records c.put_in.new.records s.empty.items s.scratch.items c.args.row row c.args.which (owned c.args.value) (seen c.in_ok-stored.stored) (seen c.field-old.result) c.body.result.now c.put_in.ensures.body c.self.invariant parts f fits c.in_ok-stored.ensures.ok c.give.ensures old_body c.field-old.ensures put c.put_in.ensures.is c.args.self.now.rows rows
 
 pub returns-clause-there : goal.returns-clause-there
 returns-clause-there c =
@@ -100,17 +85,11 @@ returns-clause-there c =
     let extras : get_or (extras_in s.columns s.layout) c.args.which (extra.Bytes 0) ≡ get_or c.args.self.now.extras c.args.which (extra.Bytes 0) = ap (λ (m : ContainerModel). get_or m.extras c.args.which (extra.Bytes 0)) c.self.view_is in
     let takes : TakesValue (get_or (extras_in s.columns s.layout) c.args.which (extra.Bytes 0)) (owned c.args.value) = subst (λ (e : Extra). TakesValue e (owned c.args.value)) (sym extras) c.requires.kind in
     let f = slot_field s.columns s.layout c.args.which (takes_slot (get_or (extras_in s.columns s.layout) c.args.which (extra.Bytes 0)) (owned c.args.value) takes) in
-    let copied : c.copy_from_slice.new.self.items ≡ parts.r.body = c.copy_from_slice.ensures.items ∙ own_body s.arena s.arena s.columns s.layout s.records s.records s.empty.items s.scratch.items c.args.row row c.body.result.now c.self.invariant parts c.body.ensures.is in
-    let old_body : c.as_slice.result.now ≡ parts.r.body = c.as_slice.ensures.value ∙ copied in
+    let old_body : c.body.result.now ≡ parts.r.body = own_body s.arena s.arena s.columns s.layout s.records s.records s.empty.items s.scratch.items c.args.row row c.body.result.now c.self.invariant parts c.body.ensures.is in
     let field_is : field_at s.layout (s.columns + c.args.which) ≡ get_or (extras_in s.columns s.layout) c.args.which (extra.Bytes 0) = sym (get_or-drop s.columns s.layout c.args.which (extra.Bytes 0)) in
     let fits = subst (λ (e : Extra). TakesValue e (owned c.args.value)) (sym field_is ∙ f.is) takes in
-    let len : length c.put.new.body ≡ c.copy_from_slice.new.self.len = c.put.ensures.len ∙ c.as_mut_slice.ensures.len in
-    let over : c.as_slice-2.result.now ≡ c.put.new.body = c.as_slice-2.ensures.value ∙ through c.copy_from_slice.new.self.len c.put.new.body c.copy_from_slice.new.self.items len in
-    let many : length c.put.new.body ≡ body_len s.layout = c.put.ensures.len ∙ (ap length (c.as_mut_slice.ensures.value ∙ c.copy_from_slice.ensures.items) ∙ (c.body.ensures.len ∙ c.self.invariant.len)) in
-    let all : length c.as_slice-2.result.now ≡ length (record_at s.records c.args.row).body = ap length over ∙ (many ∙ (sym (c.body.ensures.len ∙ c.self.invariant.len) ∙ ap length c.body.ensures.is)) in
-    let put : all_stored s.layout c.as_slice-2.result.now ≡ _ = ap (all_stored s.layout) over ∙ (c.put.ensures.is ∙ ap (λ (b : List ℕ). set (all_stored s.layout b) (s.columns + c.args.which) (seen c.in_ok-stored.stored)) (c.as_mut_slice.ensures.value ∙ sym c.as_slice.ensures.value)) in
-    let written_is : c.write.new.self ≡ with_record s.records c.args.row (record (record_at s.records c.args.row) { body = c.as_slice-2.result.now }) = c.write.ensures.set ∙ ap (λ (b : List ℕ). with_record s.records c.args.row (record (record_at s.records c.args.row) { body = b })) (written_over (record_at s.records c.args.row).body c.as_slice-2.result.now all) in
-    set_there c.args.self.now.rows _ c.args.row row _ c.requires.live (slot_seen s.arena c.store.new.arena c.give.new.arena s.columns s.layout s.records c.write.new.self s.empty.items s.scratch.items c.args.row row c.args.which (owned c.args.value) (seen c.in_ok-stored.stored) (seen c.field-old.result) c.as_slice.result.now c.as_slice-2.result.now c.self.invariant parts f fits c.in_ok-stored.ensures.ok c.give.ensures old_body c.field-old.ensures put written_is c.args.self.now.rows rows)
+    let put = c.put_in.ensures.stores ∙ ap (λ (b : List ℕ). set (all_stored s.layout b) (s.columns + c.args.which) (seen c.in_ok-stored.stored)) (sym c.body.ensures.is) in
+    set_there c.args.self.now.rows _ c.args.row row _ c.requires.live (slot_seen s.arena c.store.new.arena c.give.new.arena s.columns s.layout s.records c.put_in.new.records s.empty.items s.scratch.items c.args.row row c.args.which (owned c.args.value) (seen c.in_ok-stored.stored) (seen c.field-old.result) c.body.result.now c.put_in.ensures.body c.self.invariant parts f fits c.in_ok-stored.ensures.ok c.give.ensures old_body c.field-old.ensures put c.put_in.ensures.is c.args.self.now.rows rows)
 
 pub returns-clause-changes : goal.returns-clause-changes
 returns-clause-changes c =
@@ -121,15 +100,9 @@ returns-clause-changes c =
     let extras : get_or (extras_in s.columns s.layout) c.args.which (extra.Bytes 0) ≡ get_or c.args.self.now.extras c.args.which (extra.Bytes 0) = ap (λ (m : ContainerModel). get_or m.extras c.args.which (extra.Bytes 0)) c.self.view_is in
     let takes : TakesValue (get_or (extras_in s.columns s.layout) c.args.which (extra.Bytes 0)) (owned c.args.value) = subst (λ (e : Extra). TakesValue e (owned c.args.value)) (sym extras) c.requires.kind in
     let f = slot_field s.columns s.layout c.args.which (takes_slot (get_or (extras_in s.columns s.layout) c.args.which (extra.Bytes 0)) (owned c.args.value) takes) in
-    let copied : c.copy_from_slice.new.self.items ≡ parts.r.body = c.copy_from_slice.ensures.items ∙ own_body s.arena s.arena s.columns s.layout s.records s.records s.empty.items s.scratch.items c.args.row row c.body.result.now c.self.invariant parts c.body.ensures.is in
-    let old_body : c.as_slice.result.now ≡ parts.r.body = c.as_slice.ensures.value ∙ copied in
+    let old_body : c.body.result.now ≡ parts.r.body = own_body s.arena s.arena s.columns s.layout s.records s.records s.empty.items s.scratch.items c.args.row row c.body.result.now c.self.invariant parts c.body.ensures.is in
     let field_is : field_at s.layout (s.columns + c.args.which) ≡ get_or (extras_in s.columns s.layout) c.args.which (extra.Bytes 0) = sym (get_or-drop s.columns s.layout c.args.which (extra.Bytes 0)) in
     let fits = subst (λ (e : Extra). TakesValue e (owned c.args.value)) (sym field_is ∙ f.is) takes in
-    let len : length c.put.new.body ≡ c.copy_from_slice.new.self.len = c.put.ensures.len ∙ c.as_mut_slice.ensures.len in
-    let over : c.as_slice-2.result.now ≡ c.put.new.body = c.as_slice-2.ensures.value ∙ through c.copy_from_slice.new.self.len c.put.new.body c.copy_from_slice.new.self.items len in
-    let many : length c.put.new.body ≡ body_len s.layout = c.put.ensures.len ∙ (ap length (c.as_mut_slice.ensures.value ∙ c.copy_from_slice.ensures.items) ∙ (c.body.ensures.len ∙ c.self.invariant.len)) in
-    let all : length c.as_slice-2.result.now ≡ length (record_at s.records c.args.row).body = ap length over ∙ (many ∙ (sym (c.body.ensures.len ∙ c.self.invariant.len) ∙ ap length c.body.ensures.is)) in
-    let put : all_stored s.layout c.as_slice-2.result.now ≡ _ = ap (all_stored s.layout) over ∙ (c.put.ensures.is ∙ ap (λ (b : List ℕ). set (all_stored s.layout b) (s.columns + c.args.which) (seen c.in_ok-stored.stored)) (c.as_mut_slice.ensures.value ∙ sym c.as_slice.ensures.value)) in
-    let written_is : c.write.new.self ≡ with_record s.records c.args.row (record (record_at s.records c.args.row) { body = c.as_slice-2.result.now }) = c.write.ensures.set ∙ ap (λ (b : List ℕ). with_record s.records c.args.row (record (record_at s.records c.args.row) { body = b })) (written_over (record_at s.records c.args.row).body c.as_slice-2.result.now all) in
+    let put = c.put_in.ensures.stores ∙ ap (λ (b : List ℕ). set (all_stored s.layout b) (s.columns + c.args.which) (seen c.in_ok-stored.stored)) (sym c.body.ensures.is) in
     subst (λ (a : ArenaModel). Changes a c.give.new.arena (blocks_of_value (owned c.args.value)) (blocks_of_held (held_at row c.args.which)) (text_cost (owned c.args.value))) (ap (λ (m : ContainerModel). m.arena) c.self.view_is)
-    (slot_changes s.arena c.store.new.arena c.give.new.arena s.columns s.layout s.records c.write.new.self s.empty.items s.scratch.items c.args.row row c.args.which (owned c.args.value) (seen c.in_ok-stored.stored) (seen c.field-old.result) c.as_slice.result.now c.as_slice-2.result.now c.self.invariant parts f fits c.in_ok-stored.ensures.ok c.give.ensures old_body c.field-old.ensures put written_is)
+    (slot_changes s.arena c.store.new.arena c.give.new.arena s.columns s.layout s.records c.put_in.new.records s.empty.items s.scratch.items c.args.row row c.args.which (owned c.args.value) (seen c.in_ok-stored.stored) (seen c.field-old.result) c.body.result.now c.put_in.ensures.body c.self.invariant parts f fits c.in_ok-stored.ensures.ok c.give.ensures old_body c.field-old.ensures put c.put_in.ensures.is)

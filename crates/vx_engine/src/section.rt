@@ -6,7 +6,7 @@ ghost use Rattle.vx_engine.specs.Printing.{code_name, row_line, rows_text, fault
 
 use std::alloc::{AllocError, Global};
 use vx_expr::Fault;
-use vx_json::push_row;
+use vx_json::Line;
 use vx_meaning::SlowAnswer;
 use vx_value::Row;
 
@@ -41,16 +41,17 @@ fn push_rows(alloc: Global, text: &mut Vec<u8>, rows: &[Row]) -> Result<(), Allo
 fn push_lines(text: &mut Vec<u8>, rows: &[Row]) -> Result<(), AllocError>
     ensures { OnOk result (text.new.items ≡ text.old.items ++ flat_map row_line rows.now) }
 {
+    let mut line = Line::new();
     for row in rows {
-        push_line(text, row)?;
+        push_line(text, &mut line, row)?;
     }
     Ok(())
 }
 
-fn push_line(text: &mut Vec<u8>, row: &Row) -> Result<(), AllocError>
+fn push_line(text: &mut Vec<u8>, line: &mut Line, row: &Row) -> Result<(), AllocError>
     ensures { OnOk result (text.new.items ≡ text.old.items ++ row_line row.now) }
 {
-    push_row(text, row)?;
+    line.push_row(text, row)?;
     text.push(b'\n')?;
     Ok(())
 }
@@ -66,7 +67,7 @@ fn push_fault(
 {
     let head = fault_head(alloc, node, code_name(code))?;
     text.extend_from_slice(head.as_bytes())?;
-    push_line(text, row)
+    push_line(text, &mut Line::new(), row)
 }
 
 fn fault_head(alloc: Global, node: u32, code: &str) -> Result<String, AllocError>

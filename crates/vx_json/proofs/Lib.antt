@@ -1,4 +1,5 @@
 pub mod ExpressionLaws
+pub mod LineLaws
 pub mod ListLaws
 pub mod LongLaws
 pub mod NodeLaws

@@ -1,5 +1,5 @@
 -- A node, level by level.
-use Rattle.std.proofs.Common.{◌≡◌, ◌∙◌, ap, ℕ, zero, suc, ◌-◌, ◌<◌, List, Bool, false, Option, Some, None, is_some, unwrap_or, arith, refl, codes, Result, Ok, Err}
+use Rattle.std.proofs.Common.{◌≡◌, ◌∙◌, ap, ℕ, zero, suc, ◌-◌, ◌<◌, List, Bool, false, Some, None, is_some, unwrap_or, arith, refl, codes, Result, Ok, Err}
 use Rattle.serde_json.specs.Data.{Data}
 use Rattle.vx_value.specs.declared.value.Kind.{Kind}
 use Rattle.vx_value.specs.declared.value.Value.{Value}

@@ -16,6 +16,9 @@ mod expressions;
 mod fields;
 mod front;
 mod fronts;
+#[cfg(test)]
+mod line_tests;
+mod lines;
 mod lists;
 mod long_texts;
 mod nodes;
@@ -30,6 +33,7 @@ mod way;
 mod words;
 
 pub use error::PlanError;
+pub use lines::Line;
 pub use plans::plan_of;
 pub use printing::{push_row, row_line};
 pub use refusals::refusal_text;

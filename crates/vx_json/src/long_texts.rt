@@ -48,9 +48,10 @@ fn is_plain(value: &Json) -> bool
     }
 }
 
+/// Whether some string in a member has.
 #[cycle(long)]
 #[tactic(auto, using(crate::proofs::LongLaws::long))]
-fn has_long_member(fields: &Map<String, Json>) -> bool
+pub(crate) fn has_long_member(fields: &Map<String, Json>) -> bool
     ensures { result ≡ spec.has_long_member (members_view fields.now.entries) }
 {
     for (_, value) in fields.iter() {

@@ -1,4 +1,4 @@
-ghost use Rattle.std.specs.Prelude.{◌≡◌, IfOk};
+ghost use Rattle.std.specs.Prelude.{◌≡◌, ◌||◌, IfOk, OnOk};
 ghost use Rattle.vx_plan.specs.Check.{IsChecked};
 ghost use Rattle.serde_json.specs.View.{view};
 ghost use Rattle.vx_json.specs.Outcome.{Gives};
@@ -7,7 +7,6 @@ ghost use Rattle.vx_json.specs.Plans as spec;
 use crate::error::PlanError;
 use crate::fields::has_only;
 use crate::fronts::MOST_LEVELS;
-use crate::long_texts::has_long;
 use crate::owned::source_of;
 use crate::way::Way;
 use serde_json::Value as Json;
@@ -62,20 +61,21 @@ pub(crate) fn parse_plan(alloc: Global, bytes: &[u8]) -> Result<Parsed, PlanErro
     ensures { Gives result (spec.parsed bytes.now) }
 {
     let json = Json::from_slice(alloc, bytes)?;
-    let long = has_long(&json);
-    let plan = plan_in(alloc, json)?;
+    let mut long = false;
+    let plan = plan_in(alloc, json, &mut long)?;
     Ok(Parsed { plan, long })
 }
 
-/// The plan that a JSON value is.
-fn plan_in(alloc: Global, value: Json) -> Result<Plan, PlanError>
-    ensures { Gives result (spec.plan_in (view value)) }
+/// The plan that a JSON value is, and whether a string in it is too long.
+fn plan_in(alloc: Global, value: Json, long: &mut bool) -> Result<Plan, PlanError>
+    ensures gives { Gives result (spec.plan_in (view value)) }
+    ensures noted { OnOk result (long.new ≡ (long.old || spec.has_long (view value))) }
 {
     if !is_file(&value) {
         let path = String::from_str(alloc, "/")?;
         return Err(PlanError::Refused(Refusal::P2(path)));
     }
-    let root = root_in(alloc, value)?;
+    let root = root_in(alloc, value, long)?;
     Ok(Plan { root })
 }
 
@@ -85,8 +85,9 @@ fn is_file(value: &Json) -> bool
     has_only(&["plan"], &[], value)
 }
 
-fn root_in(alloc: Global, value: Json) -> Result<Node, PlanError>
-    ensures { Gives result (spec.root_in (view value)) }
+fn root_in(alloc: Global, value: Json, long: &mut bool) -> Result<Node, PlanError>
+    ensures gives { Gives result (spec.root_in (view value)) }
+    ensures noted { OnOk result (long.new ≡ (long.old || spec.has_long (view value))) }
 {
-    source_of(alloc, MOST_LEVELS, &Way::Root, "plan", value)
+    source_of(alloc, MOST_LEVELS, &Way::Root, "plan", value, long)
 }

@@ -10,7 +10,7 @@ returns-in_err-json c = Gives-json_error c.args.bytes.now _ c.in_err-json.field-
 pub returns-in_err-plan : goal.returns-in_err-plan
 returns-in_err-plan c =
     rw (parsed-read c.args.bytes.now _ c.in_ok-json.ensures.ok.0 c.in_ok-json.ensures.ok.1)
-    (Gives-refused (plan_in (view c.in_ok-json.json)) _ c.in_err-plan.field-0.0 c.from_residual-in_err-plan.result c.from_residual-in_err-plan.ensures.1 c.in_err-plan.ensures)
+    (Gives-refused (plan_in (view c.in_ok-json.json)) _ c.in_err-plan.field-0.0 c.from_residual-in_err-plan.result c.from_residual-in_err-plan.ensures.1 c.in_err-plan.ensures.gives)
 
 pub returns : goal.returns
-returns c = rw (parsed-read c.args.bytes.now _ c.in_ok-json.ensures.ok.0 c.in_ok-json.ensures.ok.1, c.in_ok-plan.ensures, c.has_long-long.ensures)
+returns c = rw (parsed-read c.args.bytes.now _ c.in_ok-json.ensures.ok.0 c.in_ok-json.ensures.ok.1, c.in_ok-plan.ensures.gives, c.in_ok-plan.ensures.noted)

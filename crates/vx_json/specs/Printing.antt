@@ -1,5 +1,5 @@
 -- The text of a row.
-use Rattle.std.specs.Prelude.{List, [], ◌∷◌, ◌++◌, ℕ, ◌/◌, ◌%◌, map, codes, true, false}
+use Rattle.std.specs.Prelude.{Bool as Truth, List, [], ◌∷◌, ◌++◌, ℕ, ◌/◌, ◌%◌, map, codes, true, false}
 use Rattle.std.specs.Char.{digit_char}
 use Rattle.std.specs.Fmt.{signed_decimal}
 use Rattle.std.specs.List.{flat_map, join_with_byte}
@@ -31,3 +31,8 @@ rest_text cells = flat_map (λ cell. byte "," ∷ cell_text cell) cells
 -- a row as a compact JSON array
 abbrev pub row_text : List Value → List ℕ
 row_text cells = codes "[" ++ cells_text cells ++ codes "]"
+
+-- a cell that is printed as a JSON string
+abbrev pub is_text : Value → Truth
+is_text (Text text) = true
+is_text _ = false

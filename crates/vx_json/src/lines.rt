@@ -1,7 +1,7 @@
-ghost use Rattle.std.specs.Prelude.{◌≡◌, ◌+◌, ◌*◌, ◌<◌, ◌≤◌, ◌∷◌, ◌++◌, IfSome, OnOk, drop, length};
+ghost use Rattle.std.specs.Prelude.{◌≡◌, ◌↔◌, ◌+◌, ◌*◌, ◌<◌, ◌≤◌, ◌∷◌, ◌++◌, Any, IfSome, IsTrue, OnOk, drop, length, true};
 ghost use Rattle.std.specs.Fmt.{signed_decimal};
 ghost use Rattle.std.specs.Str.{byte};
-ghost use Rattle.vx_json.specs.Printing.{cell_text, row_text};
+ghost use Rattle.vx_json.specs.Printing.{cell_text, is_text, row_text};
 
 use crate::printing::push_row;
 use itoa::write_digits;
@@ -46,7 +46,7 @@ fn put_row(bytes: &mut [u8; ROOM], cells: &[Value]) -> Option<usize>
     if cells.is_empty() {
         return None;
     }
-    if cells.len() > CELLS {
+    if cells.len() > CELLS || has_text(cells) {
         return None;
     }
     let mut at = put_byte(bytes, ROOM, b']');
@@ -59,6 +59,20 @@ fn put_row(bytes: &mut [u8; ROOM], cells: &[Value]) -> Option<usize>
     // The bracket stands where the first cell has its comma.
     bytes[at] = b'[';
     Some(at)
+}
+
+/// Whether some cell is a text. It is asked first, so that nothing is written in vain.
+fn has_text(cells: &[Value]) -> bool
+    ensures { IsTrue result ↔ Any (λ cell. is_text cell ≡ true) cells.now }
+{
+    cells.iter().any(is_text)
+}
+
+/// Whether a cell is a text.
+fn is_text(cell: &Value) -> bool
+    ensures { result ≡ is_text cell.now }
+{
+    matches!(cell, Value::Text(_))
 }
 
 /// Writes a cell's text so that it ends there, and answers where it starts; none where it is a text.

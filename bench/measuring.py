@@ -1,5 +1,6 @@
 """What the scripts of this folder share: programs of the repository, and processor seconds of one run."""
 import os
+import statistics
 import subprocess
 import sys
 from pathlib import Path
@@ -29,14 +30,33 @@ def timed(command: list[str], out: Path, statuses: tuple[int, ...] = (0,)) -> tu
     return usage.ru_utime + usage.ru_stime, usage.ru_maxrss
 
 
-def best_of(commands: dict[str, list[str]], folder: Path, turns: int,
-            statuses: tuple[int, ...] = (0,)) -> dict[str, tuple[float, int]]:
-    """Each command so many times, in turn, and the best run of each; its output stays in the folder."""
-    runs = {name: [] for name in commands}
+Runs = dict[str, list[tuple[float, int]]]
+
+
+def runs_of(commands: dict[str, list[str]], folder: Path, turns: int, statuses: tuple[int, ...] = (0,)) -> Runs:
+    """Each command so many times, in turn; its output stays in the folder."""
+    runs: Runs = {name: [] for name in commands}
     for _ in range(turns):
         for name, command in commands.items():
             runs[name].append(timed(command, folder / name, statuses))
+    return runs
+
+
+def best_in(runs: Runs) -> dict[str, tuple[float, int]]:
+    """The best run of each command."""
     return {name: min(run) for name, run in runs.items()}
+
+
+def best_of(commands: dict[str, list[str]], folder: Path, turns: int,
+            statuses: tuple[int, ...] = (0,)) -> dict[str, tuple[float, int]]:
+    """Each command so many times, in turn, and the best run of each."""
+    return best_in(runs_of(commands, folder, turns, statuses))
+
+
+def ratio(runs: Runs, ours: str, theirs: str) -> float:
+    """How many times as long one command takes as another: the median over the turns, in each of which both ran one
+    after the other, since a shared machine changes its speed from second to second."""
+    return statistics.median(mine / other for (mine, _), (other, _) in zip(runs[ours], runs[theirs]))
 
 
 def report(best: dict[str, tuple[float, int]], size: float) -> None:

@@ -16,9 +16,9 @@ use Rattle.vx_expr.specs.Eval.{eval, apply, choice, is_truth}
 use Rattle.vx_expr.proofs.ExprLemmas.{fold-Call, type_of-Call, eval-Call}
 use Rattle.vx_vector.specs.Batch.{row_of, kinds_of}
 use Rattle.vx_vector.specs.Column.{Column}
-use Rattle.vx_vector.specs.Lanes.{kind_of, rows_of}
+use Rattle.vx_vector.specs.Lanes.{kind_of, rows_of, lane_at, AreLanes}
 use Rattle.vx_vector.specs.declared.lanes.Lanes.{Lanes}
-use Rattle.vx_eval.specs.Got.{got_at}
+use Rattle.vx_eval.specs.Got.{got_at, got_of}
 use Rattle.vx_eval.specs.Gives.{Gives, GivesWhere}
 use Rattle.vx_eval.specs.Literals.{literals_fit, literals_step}
 use Rattle.vx_eval.specs.Matters.{matters, is_else}
@@ -111,7 +111,7 @@ ready_call columns g args now e is same ready = record {
   literals = subst IsTrue (ap literals_fit is ∙ literals_fit-Call g args ∙ all_same args ∙ ap (list_all literals_fit) (sym same)) ready.literals;
 }
 
-evaluated : (columns : List Column) (rows : List ℕ) (wanted : List Bool) (g : Func) (args now : List Expr) (e : Expr) (l : Lanes) → e ≡ Call g args → now ≡ args → EvaluatedCall columns rows wanted g now l → Evaluated columns rows wanted e l
+pub evaluated : (columns : List Column) (rows : List ℕ) (wanted : List Bool) (g : Func) (args now : List Expr) (e : Expr) (l : Lanes) → e ≡ Call g args → now ≡ args → EvaluatedCall columns rows wanted g now l → Evaluated columns rows wanted e l
 evaluated columns rows wanted g args now e l is same call = record {
   kind = ap (λ (x : Expr). type_of x (kinds_of columns)) is ∙ type_of-Call g args (kinds_of columns) ∙ ap (λ (xs : List Expr). type_of_call g (map (λ a. type_of a (kinds_of columns)) xs)) (sym same) ∙ call.kind;
   count = call.count;
@@ -119,10 +119,6 @@ evaluated columns rows wanted g args now e l is same call = record {
       let row : List Value = row_of columns (get_or rows k 0) in
       call.each k h w ∙ ap (λ (xs : List Expr). apply g (map (λ a. eval a row) xs)) same ∙ sym (ap (λ (x : Expr). eval x row) is ∙ eval-Call g args row);
 }
-
-pub evaluated_call : {E : Type 0} (columns : List Column) (rows : List ℕ) (wanted : List Bool) (g : Func) (args now : List Expr) (e : Expr) (r : Result Lanes E) → e ≡ Call g args → now ≡ args → IfOk r (EvaluatedCall columns rows wanted g now) → IfOk r (Evaluated columns rows wanted e)
-evaluated_call columns rows wanted g args now e (Ok l) is same call = evaluated columns rows wanted g args now e l is same call
-evaluated_call columns rows wanted g args now e (Err x) is same call = tt
 
 -- ---- results of arguments
 
@@ -190,3 +186,15 @@ pub evaluated_three : {E : Type 0} (columns : List Column) (rows : List ℕ) (wa
 evaluated_three columns rows wanted firsts lasts g args c a b lc la lb (Ok l) are ready ec ea eb untaken unleft kind given =
     subst (λ (xs : List Expr). EvaluatedCall columns rows wanted g xs l) (sym are) (evaluated_triple columns rows wanted firsts lasts g c a b lc la lb l (subst (AreReady columns g) are ready) ec ea eb untaken unleft kind given)
 evaluated_three columns rows wanted firsts lasts g args c a b lc la lb (Err x) are ready ec ea eb untaken unleft kind given = tt
+
+-- ---- rows that were lent, in buffers of their own
+
+pub evaluated_owned : (columns : List Column) (rows : List ℕ) (wanted : List Bool) (e : Expr) (l r : Lanes) → Evaluated columns rows wanted e l → AreLanes (kind_of l) (rows_of l) (lane_at l) r → Evaluated columns rows wanted e r
+evaluated_owned columns rows wanted e l r done are = record {
+  kind = done.kind ∙ ap (λ (k : Kind). Ok k) (sym are.kind);
+  count = are.rows ∙ done.count;
+  each = λ (k : ℕ) (h : k < length rows) (w : get_or wanted k false ≡ true). ap got_of (are.at k (omega (arith, done.count))) ∙ done.each k h w;
+}
+
+pub evaluated_lent : (columns : List Column) (rows : List ℕ) (wanted : List Bool) (e : Expr) (l now : Lanes) → now ≡ l → Evaluated columns rows wanted e l → Evaluated columns rows wanted e now
+evaluated_lent columns rows wanted e l now same done = subst (Evaluated columns rows wanted e) (sym same) done

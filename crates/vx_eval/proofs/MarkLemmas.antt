@@ -5,10 +5,14 @@ use Rattle.vx_value.specs.declared.value.Value.{Value}
 use Rattle.vx_value.specs.declared.value.Value.TheVariants.{Null}
 use Rattle.vx_expr.specs.declared.outcome.Got.{Got}
 use Rattle.vx_expr.specs.declared.outcome.Got.TheVariants as got
-use Rattle.vx_expr.specs.Eval.{null, binary}
+use Rattle.vx_expr.specs.Eval.{null, binary, value_or_null}
+use Rattle.vx_vector.specs.Lane.{Lane, settled, settled_mark}
+use Rattle.vx_vector.specs.Lanes.{kind_of, rows_of, lane_at, AreLanes}
+use Rattle.vx_vector.specs.declared.lanes.Lanes.{Lanes}
 use Rattle.vx_vector.specs.Marks.{strict_mark, strict_marks}
 use Rattle.vx_vector.proofs.MarkLemmas.{get_or-strict_marks}
-use Rattle.vx_eval.specs.Got.{got_under, fault_of, strictest, marked}
+use Rattle.vx_eval.specs.Gives.{Gives}
+use Rattle.vx_eval.specs.Got.{got_at, got_of, got_under, fault_of, strictest, marked}
 
 pub not_fine : (m : ℕ) → 2 ≤ m → nat_eq m 0 ≡ false
 not_fine m h = grind arith
@@ -73,3 +77,15 @@ pub strict_row : (f : Value → Value → Got) (x y out : Value) (lefts rights m
 strict_row f x y out lefts rights marks k ea eb ec even h is e =
     let mark : get_or marks k 1 ≡ strictest (get_or lefts k 1) (get_or rights k 1) = ap (λ l. get_or l k 1) is ∙ get_or-strict_marks lefts rights k 1 1 1 even h ∙ same_strict (get_or lefts k 1) (get_or rights k 1) in
     rw mark (strict_test f x y out (get_or lefts k 1) (get_or rights k 1) ea eb ec e)
+
+-- ---- marks of faults that become those of nulls
+
+settled_got : (l : Lane) → got_of (settled l) ≡ value_or_null (got_of l)
+settled_got l = by_mark (λ (m : ℕ). got_under (settled_mark m) l.raw ≡ value_or_null (got_under m l.raw)) refl refl (λ (n : ℕ) (h : 2 ≤ n). rw (not_fine n h, not_null n h) refl) l.mark
+
+pub tried_rows : (a l r : Lanes) → AreLanes (kind_of a) (rows_of a) (lane_at a) l → AreLanes (kind_of l) (rows_of l) (λ (k : ℕ). settled (lane_at l k)) r → Gives (rows_of a) (λ (k : ℕ). value_or_null (got_at a k)) r
+tried_rows a l r are is = record {
+  rows = is.rows ∙ are.rows;
+  at = λ (k : ℕ) (h : k < rows_of a).
+      ap got_of (is.at k (omega (arith, are.rows))) ∙ settled_got (lane_at l k) ∙ ap (λ (x : Lane). value_or_null (got_of x)) (are.at k h);
+}

@@ -12,9 +12,11 @@ use Rattle.vx_expr.specs.declared.outcome.Fault.{Fault}
 use Rattle.vx_expr.specs.declared.outcome.Got.{Got}
 use Rattle.vx_vector.specs.Column.{Column, column}
 use Rattle.vx_vector.specs.Lane.{lane, value_of}
-use Rattle.vx_vector.specs.Lanes.{kind_of, rows_of, lane_at}
+use Rattle.vx_vector.specs.Lanes.{kind_of, rows_of, lane_at, holds_fault}
+use Rattle.vx_vector.specs.Marks.{is_fault}
 use Rattle.vx_vector.specs.declared.lanes.Lanes.{Lanes}
 use Rattle.vx_vector.proofs.FormLemmas.{value_at_range}
+use Rattle.vx_vector.proofs.ViewLemmas.{no_fault_at}
 use Rattle.vx_vector.specs.Selection.{ascends}
 use Rattle.vx_eval.specs.Got.{got_under, fault_under}
 use Rattle.vx_eval.specs.Mask.{outcome, Evaluates}
@@ -58,6 +60,13 @@ told_more faults places told last fault up inside there before here k h =
           let differs : get_or places k 0 ≢ get_or places last 0 = omega arith in
           get_or-set_other faults (get_or places last 0) (get_or places k 0) fault None differs ∙ before k earlier
     ]
+
+-- a row without a fault is told as one
+pub none_told : (l : Lanes) (k : ℕ) → holds_fault l ≡ false → k < rows_of l → fault_under (lane_at l k).mark ≡ None
+none_told l k none h =
+    let low : is_fault (lane_at l k).mark ≡ false = no_fault_at l k none h in
+    let less : nat_lt (lane_at l k).mark 2 ≡ true = grind arith in
+    rw less refl
 
 -- what a mask and a vector tell of a row is what its lane gives
 pub told_outcome : (m : ℕ) (raw : Value) → outcome (fault_under m) (value_of (lane m raw)) ≡ got_under m raw

@@ -12,9 +12,9 @@ use Rattle.vx_vector.specs.Store.{text_in}
 use Rattle.vx_vector.specs.Lane.{TextRow, text_row, text_at, lane_of_text}
 use Rattle.vx_expr.specs.declared.outcome.Fault.TheVariants.{TooLong}
 use Rattle.vx_expr.specs.declared.outcome.Got.TheVariants as got
-use Rattle.vx_expr.specs.Eval.{binary, concatenation, of_texts, choice, first_given, value_or_null}
-use Rattle.vx_eval.specs.Got.{got_of, got_under, strictest, marked, tried_mark}
-use Rattle.vx_eval.specs.TextRows.{blank_row, joined, joined_row, chosen_row, given_row, tried_row}
+use Rattle.vx_expr.specs.Eval.{binary, concatenation, of_texts, choice, first_given}
+use Rattle.vx_eval.specs.Got.{got_of, got_under, strictest, marked}
+use Rattle.vx_eval.specs.TextRows.{blank_row, joined, joined_row, chosen_row, given_row}
 use Rattle.vx_eval.proofs.MarkLemmas.{by_mark, not_fine, not_null, below_two, strict_two}
 
 -- ---- what the rows give
@@ -42,9 +42,6 @@ chosen_got false m a b = by_mark (λ (m : ℕ). got_of (lane_of_text (chosen_row
 pub given_got : (a b : TextRow) → got_of (lane_of_text (given_row a b)) ≡ first_given (got_of (lane_of_text a)) (got_of (lane_of_text b))
 given_got a b = by_mark (λ (m : ℕ). got_of (lane_of_text (given_row (record a { mark = m }) b)) ≡ first_given (got_under m (Text a.text)) (got_of (lane_of_text b))) refl refl (λ (n : ℕ) (h : 2 ≤ n). rw (not_null n h, not_fine n h, not_null n h) refl) a.mark
 
-pub tried_got : (m : ℕ) (v : Value) → got_under (tried_mark m) v ≡ value_or_null (got_under m v)
-tried_got m v = by_mark (λ (m : ℕ). got_under (tried_mark m) v ≡ value_or_null (got_under m v)) refl refl (λ (n : ℕ) (h : 2 ≤ n). rw (below_two n h, not_fine n h, not_null n h) refl) m
-
 -- the same at a row of a list, where that row has been made so
 pub joined_at : (r a b : TextRow) → r ≡ joined_row a b → got_of (lane_of_text r) ≡ binary (of_texts concatenation) (got_of (lane_of_text a)) (got_of (lane_of_text b))
 joined_at r a b e = ap (λ t. got_of (lane_of_text t)) e ∙ joined_got a b
@@ -60,10 +57,7 @@ chosen_at c m r a b e = ap (λ t. got_of (lane_of_text t)) e ∙ chosen_got c m 
 pub given_at : (r a b : TextRow) → r ≡ given_row a b → got_of (lane_of_text r) ≡ first_given (got_of (lane_of_text a)) (got_of (lane_of_text b))
 given_at r a b e = ap (λ t. got_of (lane_of_text t)) e ∙ given_got a b
 
-pub tried_at : (r a : TextRow) → r ≡ tried_row a → got_of (lane_of_text r) ≡ value_or_null (got_of (lane_of_text a))
-tried_at r a e = ap (λ t. got_of (lane_of_text t)) e ∙ tried_got a.mark (Text a.text)
-
-pub ruleset text_rows = (joined_at, chosen_at, given_at, tried_at)
+pub ruleset text_rows = (joined_at, chosen_at, given_at)
 
 -- ---- rows that are copied where they are wanted
 

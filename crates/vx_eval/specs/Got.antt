@@ -36,7 +36,3 @@ strictest left right = if nat_le 2 left || nat_lt right left then left else righ
 -- a strict function's mark: that of its arguments, or else its own
 abbrev pub marked : ℕ → ℕ → ℕ
 marked before own = if nat_eq before 0 then own else before
-
--- the mark of a null for each mark of a fault
-abbrev pub tried_mark : ℕ → ℕ
-tried_mark mark = if nat_lt mark 2 then mark else 1

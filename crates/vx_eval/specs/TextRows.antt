@@ -1,7 +1,7 @@
 -- The rows that functions with texts as their results give, marks and all.
 use Rattle.std.specs.Prelude.{ℕ, ◌+◌, Bool, ◌&&◌, if◌then◌else◌, nat_eq, nat_le, nat_lt, [], ◌++◌, length}
 use Rattle.vx_vector.specs.Lane.{TextRow, text_row}
-use Rattle.vx_eval.specs.Got.{strictest, tried_mark}
+use Rattle.vx_eval.specs.Got.{strictest}
 
 -- what a text has that has a fault or is null
 abbrev pub blank_row : ℕ → TextRow
@@ -21,7 +21,3 @@ chosen_row c mark a b = if c && nat_eq mark 0 then a else if nat_lt mark 2 then 
 -- the first where it isn't null, else the second
 abbrev pub given_row : TextRow → TextRow → TextRow
 given_row a b = if nat_eq a.mark 1 then b else a
-
--- null in place of a fault
-abbrev pub tried_row : TextRow → TextRow
-tried_row a = text_row (tried_mark a.mark) a.text

@@ -1,4 +1,5 @@
 ghost use Rattle.std.specs.Prelude.{◌≡◌, [], ◌∷◌, length, IfOk, IsOk};
+ghost use Rattle.std.specs.Cow.{cow_value};
 ghost use Rattle.vx_expr.specs.Eval as eval;
 ghost use Rattle.vx_expr.specs.Typing as typing;
 ghost use Rattle.vx_eval.specs.Got.{got_at};
@@ -12,14 +13,15 @@ use crate::calls::{
 };
 use crate::compare::{AtLeast, AtMost, Equal, Greater, Less, Unequal};
 use std::alloc::{AllocError, Global};
+use std::borrow::Cow;
 use vx_expr::Func;
 use vx_vector::Lanes;
 
 /// A function of one argument.
-pub(crate) fn apply_one(alloc: Global, func: Func, a: Lanes) -> Result<Lanes, AllocError>
-    requires { IsOk (typing.kind_of_call func (kind_of a ∷ [])) }
-    ensures kind { IfOk result (λ r. typing.kind_of_call func (kind_of a ∷ []) ≡ Ok (kind_of r)) }
-    ensures each { IfOk result (Gives (rows_of a) (λ k. eval.apply func (got_at a k ∷ []))) }
+pub(crate) fn apply_one(alloc: Global, func: Func, a: Cow<'_, Lanes>) -> Result<Lanes, AllocError>
+    requires { IsOk (typing.kind_of_call func (kind_of (cow_value a) ∷ [])) }
+    ensures kind { IfOk result (λ r. typing.kind_of_call func (kind_of (cow_value a.entry) ∷ []) ≡ Ok (kind_of r)) }
+    ensures each { IfOk result (Gives (rows_of (cow_value a.entry)) (λ k. eval.apply func (got_at (cow_value a.entry) k ∷ []))) }
 {
     match func {
         Func::Negate => negate(alloc, &a),

@@ -1,4 +1,5 @@
 ghost use Rattle.std.specs.Prelude.{◌≡◌, [], ◌∷◌, length, IfOk, IsOk};
+ghost use Rattle.std.specs.Cow.{cow_value};
 ghost use Rattle.vx_expr.specs.Eval as eval;
 ghost use Rattle.vx_expr.specs.Typing as typing;
 ghost use Rattle.vx_eval.specs.Got.{got_at, got_of};
@@ -6,14 +7,13 @@ ghost use Rattle.vx_eval.specs.Gives.{Gives, GivesWhere};
 ghost use Rattle.vx_vector.specs.Lanes.{kind_of, rows_of, bool_lane};
 
 use crate::arithmetic::{IntOp, negations, of_ints};
-use crate::choice::{
-    chosen_bools, chosen_ints, given_bools, given_ints, null_tests, tried_bools, tried_ints,
-};
+use crate::choice::{chosen_bools, chosen_ints, given_bools, given_ints, null_tests};
 use crate::compare::{Comparison, compare_bools, compare_ints};
 use crate::logic::{complements, conjunctions, disjunctions};
-use crate::text_rows::{chosen_texts, concatenations, given_texts, tried_texts};
+use crate::text_rows::{chosen_texts, concatenations, given_texts};
 use crate::texts::{ByBytes, Prefix, lengths, marks_of, test_texts};
 use std::alloc::{AllocError, Global};
+use std::borrow::Cow;
 use vx_value::Kind;
 use vx_vector::{Bools, Lanes};
 
@@ -126,16 +126,14 @@ pub(crate) fn null_test(alloc: Global, a: &Lanes) -> Result<Lanes, AllocError>
     }
 }
 
-#[tactic(auto, using(crate::proofs::TextLemmas::text_rows))]
-pub(crate) fn tried(alloc: Global, a: Lanes) -> Result<Lanes, AllocError>
-    ensures kind { IfOk result (λ r. kind_of r ≡ kind_of a) }
-    ensures each { IfOk result (Gives (rows_of a) (λ k. eval.value_or_null (got_at a k))) }
+/// The mark of each fault becomes that of a null.
+pub(crate) fn tried(alloc: Global, a: Cow<'_, Lanes>) -> Result<Lanes, AllocError>
+    ensures kind { IfOk result (λ r. kind_of r ≡ kind_of (cow_value a.entry)) }
+    ensures each { IfOk result (Gives (rows_of (cow_value a.entry)) (λ k. eval.value_or_null (got_at (cow_value a.entry) k))) }
 {
-    match a {
-        Lanes::Bools(a) => Ok(Lanes::Bools(tried_bools(a))),
-        Lanes::Ints(a) => Ok(Lanes::Ints(tried_ints(a))),
-        Lanes::Texts(a) => Ok(Lanes::Texts(tried_texts(alloc, &a)?)),
-    }
+    let mut lanes = Lanes::owned(alloc, a)?;
+    lanes.settle();
+    Ok(lanes)
 }
 
 /// `coalesce` of two of one kind.

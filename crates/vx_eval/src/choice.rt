@@ -1,9 +1,9 @@
-ghost use Rattle.std.specs.Prelude.{◌≡◌, ℕ, ◌<◌, length, get_or, map, false, IfOk};
+ghost use Rattle.std.specs.Prelude.{◌≡◌, ℕ, ◌<◌, length, get_or, false, IfOk};
 ghost use Rattle.vx_value.specs.declared.value.Value.{Value};
 ghost use Rattle.vx_value.specs.declared.value.Value.TheVariants as value;
 ghost use Rattle.vx_value.specs.Value.{is_null};
 ghost use Rattle.vx_expr.specs.Eval as eval;
-ghost use Rattle.vx_eval.specs.Got.{got_of, got_under, tried_mark};
+ghost use Rattle.vx_eval.specs.Got.{got_of, got_under};
 ghost use Rattle.vx_vector.specs.Lanes.{bool_lane, int_lane};
 
 use crate::rows::{Marked, One, Three, Two, each_one, each_three, each_two};
@@ -158,48 +158,4 @@ pub(crate) fn null_tests(alloc: Global, marks: &[u8]) -> Result<Bools, AllocErro
 {
     let (values, marks) = each_one::<u8, bool, NullTest>(alloc, false, marks, marks)?;
     Ok(Bools { values, marks })
-}
-
-/// The mark of a null for each mark of a fault.
-#[inline(always)]
-pub(crate) fn tried(mark: u8) -> u8
-    ensures { result ≡ tried_mark mark }
-{
-    if mark < 2 { mark } else { NULL }
-}
-
-/// Turns the mark of each fault into that of a null.
-#[tactic(auto, using(std::proofs::lemmas::List::Edits::map_over_more))]
-pub(crate) fn try_all(marks: &mut Vec<u8>)
-    ensures { marks.new.items ≡ map tried_mark marks.old.items }
-{
-    for mark in marks.iter_mut() {
-        *mark = tried(*mark);
-    }
-}
-
-/// `try` on each row.
-pub(crate) fn tried_bools(a: Bools) -> Bools
-    ensures rows { length result.marks.items ≡ length a.marks.items }
-    ensures each { (k : ℕ) → k < length a.marks.items → got_of (bool_lane result k) ≡ eval.value_or_null (got_of (bool_lane a k)) }
-{
-    let mut marks = a.marks;
-    try_all(&mut marks);
-    Bools {
-        values: a.values,
-        marks,
-    }
-}
-
-/// `try` on each row.
-pub(crate) fn tried_ints(a: Ints) -> Ints
-    ensures rows { length result.marks.items ≡ length a.marks.items }
-    ensures each { (k : ℕ) → k < length a.marks.items → got_of (int_lane result k) ≡ eval.value_or_null (got_of (int_lane a k)) }
-{
-    let mut marks = a.marks;
-    try_all(&mut marks);
-    Ints {
-        values: a.values,
-        marks,
-    }
 }

@@ -1,4 +1,5 @@
 ghost use Rattle.std.specs.Prelude.{◌≡◌, ℕ, ◌<◌, [], ◌∷◌, ◌++◌, if◌then◌else◌, length, get_or, slice_get, unwrap_or, true, false, All, IfOk, OnOk, IsOk};
+ghost use Rattle.std.specs.Cow.{cow_value};
 ghost use Rattle.vx_value.specs.Value.{owned, IsLawful};
 ghost use Rattle.vx_value.specs.Row.{value_at};
 ghost use Rattle.vx_expr.specs.Typing as typing;
@@ -12,36 +13,37 @@ ghost use Rattle.vx_vector.specs.Lanes.{kind_of, text_lane};
 ghost use Rattle.vx_vector.specs.Store.{text_in};
 
 use std::alloc::{AllocError, Global};
+use std::borrow::Cow;
 use vx_value::{Kind, Value, ValueRef};
 use vx_vector::{Batch, FINE, Lanes, NULL, Selection, Texts, Vector};
 
-/// A column at these rows; of texts only the wanted rows are copied.
-pub(crate) fn column_lanes(
+/// A column at these rows; of texts only the wanted rows are copied, unless the column lends them.
+pub(crate) fn column_lanes<'a>(
     alloc: Global,
-    batch: &Batch,
+    batch: &'a Batch,
     at: u32,
     rows: &Selection,
     wanted: &[bool],
-) -> Result<Lanes, AllocError>
+) -> Result<Cow<'a, Lanes>, AllocError>
     requires there { IsOk (typing.kind_at (slice_get (kinds_of batch.now.columns.items) at)) }
     requires places { All (λ p. p < batch.now.rows) rows.now }
     requires wanted { length wanted.now ≡ length rows.now }
-    ensures kind { IfOk result (λ l. typing.kind_at (slice_get (kinds_of batch.now.columns.items) at) ≡ Ok (kind_of l)) }
-    ensures each { IfOk result (GivesWhere wanted.now (length rows.now) (λ k. got.Value (unwrap_or (slice_get (row_of batch.now.columns.items (get_or rows.now k 0)) at) Value.Null))) }
+    ensures kind { IfOk result (λ l. typing.kind_at (slice_get (kinds_of batch.now.columns.items) at) ≡ Ok (kind_of (cow_value l))) }
+    ensures each { IfOk result (λ l. GivesWhere wanted.now (length rows.now) (λ k. got.Value (unwrap_or (slice_get (row_of batch.now.columns.items (get_or rows.now k 0)) at) Value.Null)) (cow_value l)) }
 {
     vector_lanes(alloc, &batch.columns[at as usize], rows, wanted)
 }
 
-fn vector_lanes(
+fn vector_lanes<'a>(
     alloc: Global,
-    column: &Vector,
+    column: &'a Vector,
     rows: &Selection,
     wanted: &[bool],
-) -> Result<Lanes, AllocError>
+) -> Result<Cow<'a, Lanes>, AllocError>
     requires places { All (λ p. p < length column.now.values) rows.now }
     requires wanted { length wanted.now ≡ length rows.now }
-    ensures kind { IfOk result (λ l. kind_of l ≡ column.now.kind) }
-    ensures each { IfOk result (GivesWhere wanted.now (length rows.now) (λ k. got.Value (value_at column.now.values (get_or rows.now k 0)))) }
+    ensures kind { IfOk result (λ l. kind_of (cow_value l) ≡ column.now.kind) }
+    ensures each { IfOk result (λ l. GivesWhere wanted.now (length rows.now) (λ k. got.Value (value_at column.now.values (get_or rows.now k 0))) (cow_value l)) }
 {
     match column.kind() {
         Kind::Text => text_lanes(alloc, column, rows, wanted),
@@ -50,23 +52,23 @@ fn vector_lanes(
     }
 }
 
-fn text_lanes(
+fn text_lanes<'a>(
     alloc: Global,
-    column: &Vector,
+    column: &'a Vector,
     rows: &Selection,
     wanted: &[bool],
-) -> Result<Lanes, AllocError>
+) -> Result<Cow<'a, Lanes>, AllocError>
     requires kind { column.now.kind ≡ Kind.Text }
     requires places { All (λ p. p < length column.now.values) rows.now }
     requires wanted { length wanted.now ≡ length rows.now }
-    ensures kind { IfOk result (λ l. kind_of l ≡ column.now.kind) }
-    ensures each { IfOk result (GivesWhere wanted.now (length rows.now) (λ k. got.Value (value_at column.now.values (get_or rows.now k 0)))) }
+    ensures kind { IfOk result (λ l. kind_of (cow_value l) ≡ column.now.kind) }
+    ensures each { IfOk result (λ l. GivesWhere wanted.now (length rows.now) (λ k. got.Value (value_at column.now.values (get_or rows.now k 0))) (cow_value l)) }
 {
     if wanted.iter().all(|one| *one) {
         return column.lanes_at(alloc, rows);
     }
     let texts = wanted_texts(alloc, column, rows.places(), wanted)?;
-    Ok(Lanes::Texts(texts))
+    Ok(Cow::Owned(Lanes::Texts(texts)))
 }
 
 #[tactic(auto, using(crate::proofs::TextLemmas::wanted_got))]

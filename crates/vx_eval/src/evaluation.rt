@@ -1,4 +1,5 @@
 ghost use Rattle.std.specs.Prelude.{◌≡◌, ◌<◌, length, All, IfOk, IsOk, IsTrue};
+ghost use Rattle.std.specs.Cow.{cow_value};
 ghost use Rattle.vx_expr.specs.Typing.{type_of};
 ghost use Rattle.vx_vector.specs.Batch.{kinds_of};
 ghost use Rattle.vx_eval.specs.Literals.{literals_fit};
@@ -11,6 +12,7 @@ use crate::leaf::{filled, literal_lanes};
 use crate::mask::{FaultMask, faults_of};
 use crate::wanted::{left_over, second_wanted, taken, these_or};
 use std::alloc::{AllocError, Global};
+use std::borrow::Cow;
 use vx_expr::{Expr, Func};
 use vx_vector::{Batch, Lanes, Selection, Vector};
 
@@ -29,14 +31,13 @@ pub fn eval(
     ensures { IfOk result (λ r. Evaluates e.now batch.now.columns.items rows.now r.0 r.1) }
 {
     let wanted = filled(alloc, true, rows.places().len())?;
-    let lanes = lanes_of(alloc, e, batch, rows, wanted.as_slice())?;
+    let lanes = owned_lanes_of(alloc, e, batch, rows, wanted.as_slice())?;
     let faults = faults_of(alloc, &lanes, rows, batch.rows)?;
     Ok((Vector::of_lanes(lanes), faults))
 }
 
-/// A row for each selected row, in their order, with what the expression gives there if the row is wanted.
-#[cycle(evaluation)]
-pub(crate) fn lanes_of(
+/// The same as `lanes_of`, in buffers that no column has.
+fn owned_lanes_of(
     alloc: Global,
     e: &Expr,
     batch: &Batch,
@@ -48,12 +49,37 @@ pub(crate) fn lanes_of(
     requires wanted { length wanted.now ≡ length rows.now }
     ensures { IfOk result (Evaluated batch.now.columns.items rows.now wanted.now e.now) }
 {
+    Lanes::owned(alloc, lanes_of(alloc, e, batch, rows, wanted)?)
+}
+
+/// A row for each selected row, in their order, with what the expression gives there if the row is wanted. A column
+/// lends its rows where they stand in its buffers just so.
+#[cycle(evaluation)]
+pub(crate) fn lanes_of<'a>(
+    alloc: Global,
+    e: &Expr,
+    batch: &'a Batch,
+    rows: &Selection,
+    wanted: &[bool],
+) -> Result<Cow<'a, Lanes>, AllocError>
+    requires ready { IsReady batch.now.columns.items e.now }
+    requires places { All (λ p. p < batch.now.rows) rows.now }
+    requires wanted { length wanted.now ≡ length rows.now }
+    ensures { IfOk result (λ l. Evaluated batch.now.columns.items rows.now wanted.now e.now (cow_value l)) }
+{
     match e {
         Expr::Column(at) => column_lanes(alloc, batch, *at, rows, wanted),
-        Expr::Literal(value, kind) => literal_lanes(alloc, value, *kind, wanted),
-        Expr::Call { func, args } => {
-            lanes_of_call(alloc, *func, args.as_slice(), batch, rows, wanted)
+        Expr::Literal(value, kind) => {
+            Ok(Cow::Owned(literal_lanes(alloc, value, *kind, wanted)?))
         }
+        Expr::Call { func, args } => Ok(Cow::Owned(lanes_of_call(
+            alloc,
+            *func,
+            args.as_slice(),
+            batch,
+            rows,
+            wanted,
+        )?)),
     }
 }
 
@@ -79,17 +105,19 @@ fn lanes_of_call(
         }
         [a, b] => {
             let a = lanes_of(alloc, a, batch, rows, wanted)?;
-            let second = second_wanted(alloc, func, &a, wanted)?;
+            let left = a.as_ref();
+            let second = second_wanted(alloc, func, left, wanted)?;
             let b = lanes_of(alloc, b, batch, rows, these_or(&second, wanted))?;
-            apply_two(alloc, func, &a, &b, wanted)
+            apply_two(alloc, func, left, b.as_ref(), wanted)
         }
         [c, a, b] => {
             let c = lanes_of(alloc, c, batch, rows, wanted)?;
-            let first = taken(alloc, &c, wanted)?;
+            let condition = c.as_ref();
+            let first = taken(alloc, condition, wanted)?;
             let a = lanes_of(alloc, a, batch, rows, first.as_slice())?;
-            let last = left_over(alloc, &c, wanted)?;
+            let last = left_over(alloc, condition, wanted)?;
             let b = lanes_of(alloc, b, batch, rows, last.as_slice())?;
-            apply_three(alloc, func, &c, &a, &b)
+            apply_three(alloc, func, condition, a.as_ref(), b.as_ref())
         }
         _ => unreachable!(),
     }

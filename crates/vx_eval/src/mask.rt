@@ -1,6 +1,5 @@
-ghost use Rattle.std.specs.Prelude.{◌≡◌, ℕ, ◌<◌, ◌≤◌, length, get_or, false, None, All, IfOk, IsTrue};
+ghost use Rattle.std.specs.Prelude.{◌≡◌, ℕ, ◌<◌, length, get_or, None, All, IfOk, IsTrue};
 ghost use Rattle.vx_eval.specs.Got.{fault_under};
-ghost use Rattle.vx_vector.specs.Lane.{text_at};
 ghost use Rattle.vx_vector.specs.Lanes.{rows_of, lane_at};
 ghost use Rattle.vx_vector.specs.Selection.{ascends};
 
@@ -8,7 +7,7 @@ use crate::marks::{DIVIDE_BY_ZERO, OVERFLOW};
 use std::alloc::{AllocError, Global};
 use std::marker::Model;
 use vx_expr::Fault;
-use vx_vector::{Lanes, Selection, Texts};
+use vx_vector::{Lanes, Selection};
 
 /// For each selected row of a batch its fault, if it has one.
 #[derive(Debug, Drop)]
@@ -41,6 +40,7 @@ impl FaultMask {
 }
 
 /// The faults of the rows of a batch, which has so many, that lie at these places.
+#[tactic(auto, using(crate::proofs::MaskLemmas::none_told))]
 pub(crate) fn faults_of(
     alloc: Global,
     lanes: &Lanes,
@@ -51,7 +51,7 @@ pub(crate) fn faults_of(
     requires places { All (λ p. p < count) rows.now }
     ensures { IfOk result (λ m. (k : ℕ) → k < length rows.now → get_or m (get_or rows.now k 0) None ≡ fault_under (lane_at lanes.now k).mark) }
 {
-    if !has_fault(lanes) {
+    if !lanes.has_fault() {
         return Ok(FaultMask {
             faults: Vec::new(alloc),
         });
@@ -102,35 +102,4 @@ fn mark_at(lanes: &Lanes, row: usize) -> u8
         Lanes::Ints(ints) => ints.marks[row],
         Lanes::Texts(texts) => texts.mark(row),
     }
-}
-
-/// Whether a row may have a fault: false says that none has.
-fn has_fault(lanes: &Lanes) -> bool
-    ensures { result ≡ false → (k : ℕ) → k < rows_of lanes.now → (lane_at lanes.now k).mark < 2 }
-{
-    match lanes {
-        Lanes::Bools(bools) => greatest(bools.marks.as_slice()) >= OVERFLOW,
-        Lanes::Ints(ints) => greatest(ints.marks.as_slice()) >= OVERFLOW,
-        Lanes::Texts(texts) => greatest_of_texts(texts) >= OVERFLOW,
-    }
-}
-
-fn greatest(marks: &[u8]) -> u8
-    ensures { (k : ℕ) → k < length marks.now → get_or marks.now k 1 ≤ result }
-{
-    let mut most = 0;
-    for mark in marks {
-        most = u8::max(most, *mark);
-    }
-    most
-}
-
-fn greatest_of_texts(texts: &Texts) -> u8
-    ensures { (k : ℕ) → k < length texts.now → (text_at texts.now k).mark ≤ result }
-{
-    let mut most = 0;
-    for row in 0..texts.len() {
-        most = u8::max(most, texts.mark(row));
-    }
-    most
 }

@@ -1,9 +1,8 @@
 ghost use Rattle.std.specs.Prelude.{◌≡◌, ℕ, ◌<◌, [], ◌∷◌, ◌++◌, length, get_or, if◌then◌else◌, false, IfOk, OnOk};
-ghost use Rattle.vx_eval.specs.TextRows.{blank_row, joined, joined_row, chosen_row, given_row, tried_row};
+ghost use Rattle.vx_eval.specs.TextRows.{blank_row, joined, joined_row, chosen_row, given_row};
 ghost use Rattle.vx_value.specs.Value.{IsText};
 ghost use Rattle.vx_vector.specs.Lane.{text_at, text_row};
 
-use crate::choice::tried;
 use crate::marks::{TOO_LONG, strictest};
 use std::alloc::{AllocError, Global};
 use vx_vector::{Bools, FINE, NULL, Texts};
@@ -59,18 +58,6 @@ pub(crate) fn given_texts(alloc: Global, a: &Texts, b: &Texts) -> Result<Texts, 
     let mut out = Texts::with_room(alloc, a.len(), 0)?;
     for row in 0..a.len() {
         push_given(&mut out, a, b, row)?;
-    }
-    Ok(out)
-}
-
-/// `try` on each row.
-pub(crate) fn tried_texts(alloc: Global, a: &Texts) -> Result<Texts, AllocError>
-    ensures rows { IfOk result (λ r. length r ≡ length a.now) }
-    ensures each { IfOk result (λ r. (k : ℕ) → k < length a.now → text_at r k ≡ tried_row (text_at a.now k)) }
-{
-    let mut out = Texts::with_room(alloc, a.len(), 0)?;
-    for row in 0..a.len() {
-        out.push(tried(a.mark(row)), a.get(row))?;
     }
     Ok(out)
 }

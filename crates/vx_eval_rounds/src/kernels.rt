@@ -48,8 +48,8 @@ fn pair_in(alloc: Global, part: &Part) -> Result<Option<Pair>, AllocError> {
     if columns.len() < 2 {
         return Ok(None);
     }
-    let left = columns[0].lanes_at(alloc, &part.rows)?;
-    let right = columns[1].lanes_at(alloc, &part.rows)?;
+    let left = Lanes::owned(alloc, columns[0].lanes_at(alloc, &part.rows)?)?;
+    let right = Lanes::owned(alloc, columns[1].lanes_at(alloc, &part.rows)?)?;
     Ok(pair_of(left, right))
 }
 

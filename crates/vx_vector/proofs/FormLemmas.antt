@@ -1,9 +1,10 @@
 -- Lists made from a function of the row, and what a wrap, a copy and a selection make of them.
-use Rattle.std.proofs.Common.{◌≡◌, ◌∙◌, ℕ, zero, suc, ◌<◌, Bool, true, false, if◌then◌else◌, List, [], ◌∷◌, map, length, get_or, All, Option, None, Some, refl, ap, sym, subst, arith, replicate}
+use Rattle.std.proofs.Common.{◌≡◌, ◌∙◌, ℕ, zero, suc, ◌<◌, Bool, true, false, if◌then◌else◌, List, [], ◌∷◌, map, length, get_or, All, Option, None, Some, Ok, Err, refl, ap, sym, subst, arith, replicate}
+use Rattle.std.specs.Prelude.{Result, IfOk}
 use Rattle.std.specs.List.{range_with_len}
 use Rattle.std.proofs.lemmas.List.Elements.{All-map}
 use Rattle.std.proofs.lemmas.List.{get_or-map, length-map, get_or-replicate, length-replicate, get_or_default}
-use Rattle.std.proofs.lemmas.List.FromFn.{get_or-map-range_with_len, length-map-range_with_len, fill_by_all}
+use Rattle.std.proofs.lemmas.List.FromFn.{get_or-map-range_with_len, length-map-range_with_len, length-range_with_len, fill_by_all}
 use Rattle.vx_value.specs.declared.value.Value.{Value}
 use Rattle.vx_value.specs.declared.value.Value.TheVariants.{Null}
 use Rattle.vx_value.specs.Row.{value_at}
@@ -12,6 +13,7 @@ use Rattle.vx_vector.specs.Lanes.{kind_of, rows_of, lane_at, lane_or_null, AreLa
 use Rattle.vx_vector.specs.Index.{IsIn, unless, through}
 use Rattle.vx_vector.specs.Column.{wrapped, value_or_null}
 use Rattle.vx_vector.specs.declared.lanes.Lanes.{Lanes}
+use Rattle.vx_vector.proofs.SelectionLemmas.{own_place}
 
 -- ---- lists made from a function of the row
 
@@ -184,3 +186,19 @@ decoded_values f n base index even within each =
     (λ (k : ℕ) (h : k < length (map (value_or_null of_base) index)).
     let inside : k < length index = omega (arith, length-map index (value_or_null of_base)) in
     sym (each k (omega arith)) ∙ lent base (get_or index k None) (within k None inside) ∙ sym (get_or-map (value_or_null of_base) index k None Null inside))
+
+-- all rows, copied one after another
+all_rows : (lanes l : Lanes) (places : List ℕ) → places ≡ range_with_len 0 (rows_of lanes) → AreLanes (kind_of lanes) (rows_of lanes) (lane_at lanes) l → AreLanes (kind_of lanes) (length places) (λ (k : ℕ). lane_at lanes (get_or places k 0)) l
+all_rows lanes l places all are =
+    let long : length places ≡ rows_of lanes = ap length all ∙ length-range_with_len 0 (rows_of lanes) in
+    record {
+      kind = are.kind;
+      rows = are.rows ∙ sym long;
+      at = λ (k : ℕ) (h : k < length places).
+          let own : get_or places k 0 ≡ k = own_place places (rows_of lanes) all k h in
+          rw own (are.at k (omega (arith, long)));
+    }
+
+pub all_rows_of : {E : Type 0} (lanes : Lanes) (r : Result Lanes E) (places : List ℕ) → places ≡ range_with_len 0 (rows_of lanes) → IfOk r (AreLanes (kind_of lanes) (rows_of lanes) (lane_at lanes)) → IfOk r (AreLanes (kind_of lanes) (length places) (λ (k : ℕ). lane_at lanes (get_or places k 0)))
+all_rows_of lanes (Ok l) places all are = all_rows lanes l places all are
+all_rows_of lanes (Err e) places all are = tt

@@ -5,7 +5,10 @@ use Rattle.vx_value.specs.Value.{IsText}
 use Rattle.std.proofs.lemmas.List.{drop-append-le, take-append-le, length-drop, length-append, map_push, append_assoc}
 use Rattle.std.proofs.lemmas.Str.{IsUtf8-append}
 use Rattle.std.proofs.lemmas.List.Elements.{All-head, All-tail, All-weaker, All-map, All-push}
-use Rattle.vx_vector.specs.Lane.{text_row, settled_row}
+use Rattle.std.specs.Prelude.{◌||◌}
+use Rattle.std.specs.List.{list_any}
+use Rattle.vx_vector.specs.Marks.{is_fault}
+use Rattle.vx_vector.specs.Lane.{TextRow, text_row, settled_row}
 use Rattle.vx_vector.specs.declared.texts.Place.{Place}
 use Rattle.vx_vector.specs.Place.{row_of, place_from, IsPlaced, settled_place}
 
@@ -84,3 +87,8 @@ settled_placed bytes p placed = record { up = placed.up; within = placed.within;
 pub settled_all_placed : (bytes : List ℕ) (places : List Place) → All (IsPlaced bytes) places → All (IsPlaced bytes) (map settled_place places)
 settled_all_placed bytes places placed =
     All-map (IsPlaced bytes) settled_place places (λ (k : ℕ) (d : Place) (h : k < length places). settled_placed bytes _ (placed k d h))
+
+-- a test of the rows' marks needs their places alone
+pub any_placed : (bytes : List ℕ) (places : List Place) → list_any (λ (r : TextRow). is_fault r.mark) (map (row_of bytes) places) ≡ list_any (λ (p : Place). is_fault p.mark) places
+any_placed bytes [] = refl
+any_placed bytes (p ∷ places) = ap (λ b. is_fault p.mark || b) (any_placed bytes places)

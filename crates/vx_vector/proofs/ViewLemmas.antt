@@ -1,22 +1,27 @@
 -- What a vector's callers see, by the encoding that stands behind it.
-use Rattle.std.proofs.Common.{◌≡◌, ◌∙◌, ℕ, ◌<◌, Bool, true, false, if◌then◌else◌, List, map, length, get_or, All, Option, refl, ap, ap₂, sym, subst, arith, replicate}
+use Rattle.std.proofs.Common.{◌≡◌, ◌∙◌, ℕ, ◌<◌, Bool, true, false, if◌then◌else◌, List, map, length, get_or, All, Option, refl, ap, ap₂, sym, subst, arith, tests, [], replicate}
 use Rattle.std.specs.Prelude.{nat_eq}
 use Rattle.std.proofs.lemmas.List.{get_or-replicate, length-replicate}
-use Rattle.std.proofs.lemmas.List.FromFn.{length-map-range_with_len}
+use Rattle.std.proofs.lemmas.List.FromFn.{length-map-range_with_len, length-range_with_len}
+use Rattle.std.proofs.lemmas.List.Folds.{list_any_at}
+use Rattle.std.specs.List.{list_any, range_with_len}
 use Rattle.vx_value.specs.declared.value.Kind.{Kind}
 use Rattle.vx_value.specs.declared.value.Value.{Value}
 use Rattle.vx_value.specs.declared.value.Value.TheVariants.{Null}
 use Rattle.vx_value.specs.Row.{value_at}
-use Rattle.vx_vector.specs.Lane.{Lane, value_of, settled, settled_mark}
-use Rattle.vx_vector.specs.Lanes.{kind_of, rows_of, lane_at, AreLanes}
+use Rattle.vx_vector.specs.Lane.{Lane, TextRow, text_row, value_of, settled, settled_mark}
+use Rattle.vx_vector.specs.Marks.{is_fault}
+use Rattle.vx_vector.specs.Lanes.{kind_of, rows_of, lane_at, holds_fault, AreLanes}
 use Rattle.vx_vector.specs.Index.{IsIn}
 use Rattle.vx_vector.specs.Column.{Column, column}
 use Rattle.vx_vector.specs.Form.{form_kind, form_rows, form_lane, form_value, values_of, column_of}
 use Rattle.vx_vector.specs.Decoding.{Decodes, DecodesForm}
 use Rattle.vx_vector.specs.Settles.{HoldsRows}
 use Rattle.vx_vector.specs.declared.lanes.Lanes.{Lanes}
+use Rattle.vx_vector.specs.declared.lanes.Lanes.TheVariants.{Bools, Ints, Texts}
 use Rattle.vx_vector.specs.declared.form.Form.{Form}
 use Rattle.vx_vector.specs.declared.form.Form.TheVariants.{Flat, Constant}
+use Rattle.vx_vector.proofs.SelectionLemmas.{own_place}
 use Rattle.vx_vector.proofs.FormLemmas.{range_same, range_is, value_at_range, map_value_at, decoded_values}
 
 pub rows_seen : (form : Form) (seen : Column) → column_of form ≡ seen → length seen.values ≡ form_rows form
@@ -76,3 +81,33 @@ held_rows form seen e places got now are is inside = record {
       let there : lane_at now k ≡ settled (lane_at got k) = is.at k (omega (arith, are.rows)) in
       ap (λ (l : Lane). settled_mark l.mark) there ∙ mark_settled (nat_eq (lane_at got k).mark 0) ∙ sym (ap (λ (l : Lane). l.mark) there);
 }
+
+-- ---- rows that stand in a vector's own buffers
+
+-- a test that no item passes
+pub none_at : {X : Type 0} (p : X → Bool) (xs : List X) (k : ℕ) (d : X) → list_any p xs ≡ false → k < length xs → p (get_or xs k d) ≡ false
+none_at p xs k d none h =
+    elim (p (get_or xs k d)) as (λ b. p (get_or xs k d) ≡ b → b ≡ false) [
+      | true ↦ λ passes. sym (list_any_at p xs k d h passes) ∙ none
+      | false ↦ λ _. refl
+    ] refl
+
+pub no_fault_at : (l : Lanes) (k : ℕ) → holds_fault l ≡ false → k < rows_of l → is_fault (lane_at l k).mark ≡ false
+no_fault_at (Bools b) k none h = none_at is_fault b.marks.items k 1 none h
+no_fault_at (Ints i) k none h = none_at is_fault i.marks.items k 1 none h
+no_fault_at (Texts t) k none h = none_at (λ (r : TextRow). is_fault r.mark) t k (text_row 1 []) none h
+
+settled_no_fault : (m : ℕ) → is_fault m ≡ false → settled_mark m ≡ m
+settled_no_fault m none = grind (arith, tests)
+
+pub lent_rows : (lanes : Lanes) (seen : Column) → column_of (Flat lanes) ≡ seen → (places : List ℕ) → places ≡ range_with_len 0 (rows_of lanes) → holds_fault lanes ≡ false → HoldsRows seen places lanes
+lent_rows lanes seen e places all none =
+    let long : length places ≡ rows_of lanes = ap length all ∙ length-range_with_len 0 (rows_of lanes) in
+    record {
+      kind = ap (λ (s : Column). s.kind) e;
+      rows = sym long;
+      at = λ (k : ℕ) (h : k < length places).
+          let own : get_or places k 0 ≡ k = own_place places (rows_of lanes) all k h in
+          rw own (sym (value_seen (Flat lanes) seen e k (omega (arith, long, rows_seen (Flat lanes) seen e))));
+      settled = λ (k : ℕ) (h : k < length places). settled_no_fault (lane_at lanes k).mark (no_fault_at lanes k none (omega (arith, long)));
+    }

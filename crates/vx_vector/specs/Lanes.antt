@@ -1,9 +1,11 @@
 -- What typed buffers with a mark a row stand for.
-use Rattle.std.specs.Prelude.{◌≡◌, ℕ, ◌<◌, List, length, get_or, Option, Some, None, false, pos}
+use Rattle.std.specs.Prelude.{◌≡◌, ℕ, ◌<◌, Bool, List, length, get_or, Option, Some, None, false, pos}
+use Rattle.std.specs.List.{list_any}
 use Rattle.vx_value.specs.declared.value.Kind.{Kind}
 use Rattle.vx_value.specs.declared.value.Kind.TheVariants as kind
 use Rattle.vx_value.specs.declared.value.Value.TheVariants as value
 use Rattle.vx_vector.specs.Lane.{Lane, TextRow, lane, lane_of_text, text_at, absent}
+use Rattle.vx_vector.specs.Marks.{is_fault}
 use Rattle.vx_vector.specs.declared.lanes.Bools.{Bools}
 use Rattle.vx_vector.specs.declared.lanes.Ints.{Ints}
 use Rattle.vx_vector.specs.declared.lanes.Lanes.{Lanes}
@@ -39,6 +41,12 @@ lane_at (lanes.Texts t) row = text_lane t row
 abbrev pub lane_or_null : Lanes → Option ℕ → Lane
 lane_or_null l None = absent (kind_of l)
 lane_or_null l (Some place) = lane_at l place
+
+-- whether a row has a mark that is neither that of a fine row nor that of a null
+abbrev pub holds_fault : Lanes → Bool
+holds_fault (lanes.Bools b) = list_any is_fault b.marks.items
+holds_fault (lanes.Ints i) = list_any is_fault i.marks.items
+holds_fault (lanes.Texts t) = list_any (λ (r : TextRow). is_fault r.mark) t
 
 -- so many rows of a kind, each as said
 pub record AreLanes (of : Kind) (count : ℕ) (each : ℕ → Lane) (l : Lanes) : Type 0 where

@@ -1,4 +1,5 @@
-ghost use Rattle.std.specs.Prelude.{◌≡◌, ◌<◌, length, get_or, map, All, IfOk};
+ghost use Rattle.std.specs.Prelude.{◌≡◌, ◌<◌, ◌↔◌, length, get_or, map, All, IfOk, IsTrue};
+ghost use Rattle.std.specs.List.{range_with_len};
 ghost use Rattle.vx_value.specs.Value.{owned, IsLawful};
 ghost use Rattle.vx_vector.specs.Column.{wrapped, FitsKind};
 ghost use Rattle.vx_vector.specs.Lanes.{kind_of, rows_of, lane_at, AreLanes};
@@ -177,8 +178,16 @@ fn flat_lanes_at(alloc: Global, lanes: &Lanes, rows: &Selection) -> Result<Lanes
     requires { All (λ p. p < rows_of lanes.now) rows.now }
     ensures { IfOk result (AreLanes (kind_of lanes.now) (length rows.now) (λ k. lane_at lanes.now (get_or rows.now k 0))) }
 {
-    if rows.is_whole() && rows.places().len() == lanes.len() {
+    if are_all_of(rows, lanes) {
         return lanes.copy(alloc);
     }
     lanes.gather(alloc, rows.places())
+}
+
+/// Whether these are all rows of the buffers.
+#[tactic(auto, using(crate::proofs::SelectionLemmas::are_all))]
+pub(crate) fn are_all_of(rows: &Selection, lanes: &Lanes) -> bool
+    ensures { IsTrue result ↔ (rows.now ≡ range_with_len 0 (rows_of lanes.now)) }
+{
+    rows.is_whole() & (rows.places().len() == lanes.len())
 }

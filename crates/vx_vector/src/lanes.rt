@@ -1,4 +1,5 @@
 ghost use Rattle.std.specs.Prelude.{◌≡◌, ℕ, ◌<◌, length, get_or, All, IfOk};
+ghost use Rattle.std.specs.Cow.{cow_value};
 ghost use Rattle.vx_value.specs.Value.{owned, IsLawful};
 ghost use Rattle.vx_vector.specs.Index.{IsIn};
 ghost use Rattle.vx_vector.specs.Column.{FitsKind};
@@ -6,8 +7,10 @@ ghost use Rattle.vx_vector.specs.Lane.{value_of, settled, blank};
 
 use crate::gather::{gathered, gathered_or};
 use crate::marks::settle_marks;
+use crate::scan::has_fault;
 use crate::texts::Texts;
 use std::alloc::{AllocError, Global};
+use std::borrow::Cow;
 use vx_value::{Kind, ValueRef};
 
 /// The mark of a row that has its value.
@@ -44,7 +47,7 @@ pub enum Lanes {
 }
 
 impl Lanes {
-    ghost use Rattle.vx_vector.specs.Lanes.{kind_of, rows_of, lane_at, lane_or_null, AreLanes};
+    ghost use Rattle.vx_vector.specs.Lanes.{kind_of, rows_of, lane_at, lane_or_null, holds_fault, AreLanes};
 
     /// The kind of the rows' values.
     pub fn kind(&self) -> Kind
@@ -65,6 +68,17 @@ impl Lanes {
             Lanes::Bools(bools) => bools.marks.len(),
             Lanes::Ints(ints) => ints.marks.len(),
             Lanes::Texts(texts) => texts.len(),
+        }
+    }
+
+    /// Whether a row has a mark that is neither `FINE` nor `NULL`.
+    pub fn has_fault(&self) -> bool
+        ensures { result ≡ holds_fault self.now }
+    {
+        match self {
+            Lanes::Bools(bools) => has_fault(bools.marks.as_slice()),
+            Lanes::Ints(ints) => has_fault(ints.marks.as_slice()),
+            Lanes::Texts(texts) => texts.has_fault(),
         }
     }
 
@@ -111,6 +125,16 @@ impl Lanes {
                 marks: Vec::from_slice(alloc, ints.marks.as_slice())?,
             })),
             Lanes::Texts(texts) => Ok(Lanes::Texts(texts.copy(alloc)?)),
+        }
+    }
+
+    /// Rows that are lent are copied, and others are left where they are.
+    pub fn owned(alloc: Global, rows: Cow<'_, Lanes>) -> Result<Lanes, AllocError>
+        ensures { IfOk result (AreLanes (kind_of (cow_value rows.entry)) (rows_of (cow_value rows.entry)) (lane_at (cow_value rows.entry))) }
+    {
+        match rows {
+            Cow::Borrowed(lanes) => lanes.copy(alloc),
+            Cow::Owned(lanes) => Ok(lanes),
         }
     }
 

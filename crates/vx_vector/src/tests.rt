@@ -1,7 +1,7 @@
 ghost use Rattle.std.specs.Prelude.{◌≡◌, ◌<◌, ◌≤◌, length, All, IfOk, IsTrue};
 ghost use Rattle.vx_vector.specs.Column.{FitsKind};
 
-use crate::{Batch, FINE, NULL, Selection, Texts, Vector};
+use crate::{Batch, FINE, Lanes, NULL, Selection, Texts, Vector};
 use std::alloc::{AllocError, Global};
 use std::test::Fail;
 use vx_value::{Kind, Txt, Value, ValueRef};
@@ -172,11 +172,8 @@ fn tell_rows(
         return Err(AllocError);
     }
     tell(alloc, &vector.select(alloc, rows)?, told)?;
-    tell(
-        alloc,
-        &Vector::of_lanes(vector.lanes_at(alloc, rows)?),
-        told,
-    )
+    let lanes = Lanes::owned(alloc, vector.lanes_at(alloc, rows)?)?;
+    tell(alloc, &Vector::of_lanes(lanes), told)
 }
 
 /// The rows at 0 and 2, all three rows, and no row.

@@ -2,9 +2,12 @@ ghost use Rattle.std.specs.Prelude.{◌≡◌, ◌<◌, ◌≤◌, ◌+◌, [], 
 ghost use Rattle.vx_value.specs.Value.{IsText};
 ghost use Rattle.vx_vector.specs.Place.{place_from, settled_place};
 ghost use Rattle.vx_vector.specs.Index.{IsIn, item_or};
-ghost use Rattle.vx_vector.specs.Lane.{text_row, text_at, settled_row};
+ghost use Rattle.vx_vector.specs.Lane.{TextRow, text_row, text_at, settled_row};
+ghost use Rattle.vx_vector.specs.Marks.{is_fault};
+ghost use Rattle.vx_vector.specs.declared.texts.Place.{Place};
+ghost use Rattle.std.specs.List.{list_any};
 
-use crate::lanes::FINE;
+use crate::lanes::{FINE, FIRST_FAULT};
 use crate::marks::settled;
 use std::alloc::{AllocError, Global};
 use std::marker::Model;
@@ -93,6 +96,13 @@ impl Texts {
         &self.bytes[place.start as usize..place.end as usize]
     }
 
+    /// Whether a row has a mark that is neither that of a fine row nor that of a null.
+    pub(crate) fn has_fault(&self) -> bool
+        ensures { result ≡ list_any (λ (r : TextRow). is_fault r.mark) self.now }
+    {
+        place_has_fault(self.places.as_slice())
+    }
+
     /// Adds a row. More than 4 GiB of texts count as out of memory.
     pub fn push(&mut self, mark: u8, text: &[u8]) -> Result<(), AllocError>
         requires { IsText text.now }
@@ -164,6 +174,17 @@ impl Texts {
     {
         settle_places(&mut self.places);
     }
+}
+
+fn place_has_fault(places: &[Place]) -> bool
+    ensures { result ≡ list_any (λ (p : Place). is_fault p.mark) places.now }
+{
+    for place in places {
+        if place.mark >= FIRST_FAULT {
+            return true;
+        }
+    }
+    false
 }
 
 #[tactic(auto, using(std::proofs::lemmas::List::Edits::map_over_more))]

@@ -1,5 +1,6 @@
 ghost use Rattle.std.specs.Prelude.{◌≡◌, ◌<◌, length, get_or, map, replicate, All, IfOk, IsTrue, ◌↔◌};
 ghost use Rattle.std.specs.Bool.{OnFalse};
+ghost use Rattle.std.specs.Cow.{cow_value};
 ghost use Rattle.std.specs.List.{range_with_len};
 ghost use Rattle.vx_value.specs.Value.{owned, IsLawful};
 ghost use Rattle.vx_value.specs.declared.value.Kind.TheVariants as kinds;
@@ -8,11 +9,12 @@ ghost use Rattle.vx_vector.specs.Column.{column, wrapped, FitsKind, IsNoText};
 ghost use Rattle.vx_vector.specs.Lane.{value_of};
 ghost use Rattle.vx_vector.specs.Lanes.{kind_of, rows_of, lane_at};
 
-use crate::form::Form;
+use crate::form::{Form, are_all_of};
 use crate::lanes::Lanes;
 use crate::selection::Selection;
 use crate::store::lanes_of;
 use std::alloc::{AllocError, Global};
+use std::borrow::Cow;
 use std::marker::Model;
 use vx_value::{Kind, Value, ValueRef};
 
@@ -168,13 +170,19 @@ impl Vector {
         })
     }
 
-    /// The values of these rows in typed buffers, with the marks `FINE` and `NULL` alone.
-    pub fn lanes_at(&self, alloc: Global, rows: &Selection) -> Result<Lanes, AllocError>
+    /// The values of these rows in typed buffers, with the marks `FINE` and `NULL` alone. Where the vector's own
+    /// buffers are just that they are lent, and else its rows are copied.
+    pub fn lanes_at(&self, alloc: Global, rows: &Selection) -> Result<Cow<'_, Lanes>, AllocError>
         requires { All (λ p. p < length self.now.values) rows.now }
-        ensures { IfOk result (HoldsRows self.now rows.now) }
+        ensures { IfOk result (λ l. HoldsRows self.now rows.now (cow_value l)) }
     {
+        if let Form::Flat(lanes) = &self.form {
+            if are_all_of(rows, lanes) && !lanes.has_fault() {
+                return Ok(Cow::Borrowed(lanes));
+            }
+        }
         let mut lanes = self.form.lanes_at(alloc, rows)?;
         lanes.settle();
-        Ok(lanes)
+        Ok(Cow::Owned(lanes))
     }
 }

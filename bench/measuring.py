@@ -8,13 +8,26 @@ from pathlib import Path
 TOP = Path(__file__).resolve().parent.parent
 
 
-def built(crate: str) -> str:
-    """The program of a crate, built by `rt run` where it is missing."""
-    program = TOP / "crates" / crate / "out" / crate
+def is_current(program: Path) -> bool:
+    """Whether a program is there and no source is newer than it."""
     if not program.exists():
+        return False
+    built = program.stat().st_mtime
+    sources = [TOP / "crates.txt", *(path for part in ("src", "specs", "proofs") for path in TOP.glob(f"crates/*/{part}/**/*"))]
+    return all(path.stat().st_mtime <= built for path in sources)
+
+
+def built(crate: str) -> str:
+    """The program of a crate, built by `rt run` where it is missing or older than a source."""
+    program = TOP / "crates" / crate / "out" / crate
+    if not is_current(program):
         print(f"building {crate}", flush=True)
+        program.unlink(missing_ok=True)
         subprocess.run(["rt", "run"], cwd=TOP / "crates" / crate, stdin=subprocess.DEVNULL,
                        stdout=subprocess.DEVNULL, stderr=subprocess.DEVNULL)
+        if not program.exists():
+            sys.exit(f"{crate} could not be built: `rt run` in its folder tells why")
+        program.touch()
     return str(program)
 
 
@@ -53,10 +66,12 @@ def best_of(commands: dict[str, list[str]], folder: Path, turns: int,
     return best_in(runs_of(commands, folder, turns, statuses))
 
 
-def ratio(runs: Runs, ours: str, theirs: str) -> float:
-    """How many times as long one command takes as another: the median over the turns, in each of which both ran one
-    after the other, since a shared machine changes its speed from second to second."""
-    return statistics.median(mine / other for (mine, _), (other, _) in zip(runs[ours], runs[theirs]))
+def ratio(runs: Runs, ours: str, theirs: str, least: dict[str, float] | None = None) -> float:
+    """How many times as long one command takes as another, less what each takes at least: the median over the turns,
+    in each of which both ran one after the other, since a shared machine changes its speed from second to second."""
+    base = least or {ours: 0.0, theirs: 0.0}
+    return statistics.median((mine - base[ours]) / (other - base[theirs])
+                             for (mine, _), (other, _) in zip(runs[ours], runs[theirs]))
 
 
 def report(best: dict[str, tuple[float, int]], size: float) -> None:

@@ -16,9 +16,9 @@ use Rattle.vx_expr.specs.Eval.{eval, apply, choice, is_truth}
 use Rattle.vx_expr.proofs.ExprLemmas.{fold-Call, type_of-Call, eval-Call}
 use Rattle.vx_vector.specs.Batch.{row_of, kinds_of}
 use Rattle.vx_vector.specs.Column.{Column}
-use Rattle.vx_vector.specs.Lanes.{kind_of, rows_of, lane_at, AreLanes}
+use Rattle.vx_vector.specs.Lanes.{kind_of, rows_of}
 use Rattle.vx_vector.specs.declared.lanes.Lanes.{Lanes}
-use Rattle.vx_eval.specs.Got.{got_at, got_of}
+use Rattle.vx_eval.specs.Got.{got_at}
 use Rattle.vx_eval.specs.Gives.{Gives, GivesWhere}
 use Rattle.vx_eval.specs.Literals.{literals_fit, literals_step}
 use Rattle.vx_eval.specs.Matters.{matters, is_else}
@@ -187,14 +187,7 @@ evaluated_three columns rows wanted firsts lasts g args c a b lc la lb (Ok l) ar
     subst (λ (xs : List Expr). EvaluatedCall columns rows wanted g xs l) (sym are) (evaluated_triple columns rows wanted firsts lasts g c a b lc la lb l (subst (AreReady columns g) are ready) ec ea eb untaken unleft kind given)
 evaluated_three columns rows wanted firsts lasts g args c a b lc la lb (Err x) are ready ec ea eb untaken unleft kind given = tt
 
--- ---- rows that were lent, in buffers of their own
-
-pub evaluated_owned : (columns : List Column) (rows : List ℕ) (wanted : List Bool) (e : Expr) (l r : Lanes) → Evaluated columns rows wanted e l → AreLanes (kind_of l) (rows_of l) (lane_at l) r → Evaluated columns rows wanted e r
-evaluated_owned columns rows wanted e l r done are = record {
-  kind = done.kind ∙ ap (λ (k : Kind). Ok k) (sym are.kind);
-  count = are.rows ∙ done.count;
-  each = λ (k : ℕ) (h : k < length rows) (w : get_or wanted k false ≡ true). ap got_of (are.at k (omega (arith, done.count))) ∙ done.each k h w;
-}
+-- ---- rows that are lent
 
 pub evaluated_lent : (columns : List Column) (rows : List ℕ) (wanted : List Bool) (e : Expr) (l now : Lanes) → now ≡ l → Evaluated columns rows wanted e l → Evaluated columns rows wanted e now
 evaluated_lent columns rows wanted e l now same done = subst (Evaluated columns rows wanted e) (sym same) done

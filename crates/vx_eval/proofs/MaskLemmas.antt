@@ -1,5 +1,5 @@
 -- Faults told by places that ascend, and what a mark says of a vector's value.
-use Rattle.std.proofs.Common.{◌≡◌, ◌≢◌, ◌∙◌, ℕ, zero, suc, ◌+◌, ◌<◌, ◌≤◌, ◌&&◌, inl, inr, Bool, true, false, List, [], ◌∷◌, length, get_or, set, map, Option, None, Ok, refl, ap, ap₂, sym, arith, IsTrue}
+use Rattle.std.proofs.Common.{◌≡◌, ◌≢◌, ◌∙◌, ℕ, zero, suc, ◌+◌, ◌<◌, ◌≤◌, ◌&&◌, inl, inr, Bool, true, false, List, [], ◌∷◌, length, get_or, set, map, replicate, All, Option, None, Ok, refl, ap, ap₂, sym, arith, IsTrue}
 use Rattle.std.specs.Prelude.{nat_lt}
 use Rattle.std.proofs.lemmas.List.{get_or-set_same, get_or-set_other}
 use Rattle.std.proofs.lemmas.Bool.{cases_eq}
@@ -61,6 +61,22 @@ told_more faults places told last fault up inside there before here k h =
           get_or-set_other faults (get_or places last 0) (get_or places k 0) fault None differs ∙ before k earlier
     ]
 
+none_of : (count place : ℕ) → get_or {A = Option Fault} (replicate count None) place None ≡ None
+none_of zero place = refl
+none_of (suc count) zero = refl
+none_of (suc count) (suc place) = none_of count place
+
+-- where no fault is told yet, none is
+pub none_yet : (faults : List (Option Fault)) (count place : ℕ) → faults ≡ replicate count None → get_or faults place None ≡ None
+none_yet faults count place is = ap (λ (l : List (Option Fault)). get_or l place None) is ∙ none_of count place
+
+-- a fault that is told of one place is told of no other
+pub others_more : (faults : List (Option Fault)) (places : List ℕ) (last : ℕ) (fault : Option Fault) → last < length places → ((place : ℕ) → All (λ q. q ≢ place) places → get_or faults place None ≡ None)
+    → (place : ℕ) → All (λ q. q ≢ place) places → get_or (set faults (get_or places last 0) fault) place None ≡ None
+others_more faults places last fault inside before place apart =
+    let differs : place ≢ get_or places last 0 = λ (same : place ≡ get_or places last 0). apart last 0 inside (sym same) in
+    get_or-set_other faults (get_or places last 0) place fault None differs ∙ before place apart
+
 -- a row without a fault is told as one
 pub none_told : (l : Lanes) (k : ℕ) → holds_fault l ≡ false → k < rows_of l → fault_under (lane_at l k).mark ≡ None
 none_told l k none h =
@@ -73,12 +89,13 @@ pub told_outcome : (m : ℕ) (raw : Value) → outcome (fault_under m) (value_of
 told_outcome m raw = by_mark (λ (n : ℕ). outcome (fault_under n) (value_of (lane n raw)) ≡ got_under n raw) refl refl (λ (n : ℕ) (h : 2 ≤ n). rw (below_two n h, not_fine n h, not_null n h) refl) m
 
 pub evaluates : (e : Expr) (columns : List Column) (rows : List ℕ) (wanted : List Bool) (l : Lanes) (v : Column) (faults : List (Option Fault)) → Evaluated columns rows wanted e l → ((k : ℕ) → k < length rows → get_or wanted k false ≡ true)
-    → v ≡ column (kind_of l) (map (λ (k : ℕ). value_of (lane_at l k)) (range_with_len 0 (rows_of l))) → ((k : ℕ) → k < length rows → get_or faults (get_or rows k 0) None ≡ fault_under (lane_at l k).mark) → Evaluates e columns rows v faults
-evaluates e columns rows wanted l v faults done all is told = record {
+    → v ≡ column (kind_of l) (map (λ (k : ℕ). value_of (lane_at l k)) (range_with_len 0 (rows_of l))) → ((k : ℕ) → k < length rows → get_or faults (get_or rows k 0) None ≡ fault_under (lane_at l k).mark) → ((place : ℕ) → All (λ q. q ≢ place) rows → get_or faults place None ≡ None) → Evaluates e columns rows v faults
+evaluates e columns rows wanted l v faults done all is told others = record {
   kind = done.kind ∙ ap (λ (c : Column). Ok c.kind) (sym is);
   count = ap (λ (c : Column). length c.values) is ∙ length-map-range_with_len (λ (k : ℕ). value_of (lane_at l k)) 0 (rows_of l) ∙ done.count;
   each = λ (k : ℕ) (h : k < length rows).
       let value : value_at v.values k ≡ value_of (lane_at l k) =
       ap (λ (c : Column). value_at c.values k) is ∙ value_at_range (λ (j : ℕ). value_of (lane_at l j)) (rows_of l) k (omega (arith, done.count)) in
       ap₂ {C = Got} (λ (f : Option Fault) (w : Value). outcome f w) (told k h) value ∙ told_outcome (lane_at l k).mark (lane_at l k).raw ∙ done.each k h (all k h);
+  others = others;
 }

@@ -135,7 +135,7 @@ impl<O: IntOp> Two<i64, i64, i64> for Strict<O> {
     }
 }
 
-/// The function on each row. Where it is cheap, all values are computed before any mark, in lanes; its own
+/// The function on each row. Where it is cheap, all values are computed before any mark, in a loop of their own; its own
 /// faults are rare, and only where there is one the rows are computed again, each with its mark.
 pub fn of_ints<O: IntOp>(alloc: Global, a: &Ints, b: &Ints) -> Result<Ints, AllocError>
     requires { length b.now.marks.items ≡ length a.now.marks.items }

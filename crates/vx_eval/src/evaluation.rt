@@ -53,7 +53,7 @@ fn owned_lanes_of(
 }
 
 /// A row for each selected row, in their order, with what the expression gives there if the row is wanted. A column
-/// lends its rows where they stand in its buffers just so.
+/// lends its rows where its buffers have just these.
 #[cycle(evaluation)]
 pub(crate) fn lanes_of<'a>(
     alloc: Global,

@@ -2,7 +2,7 @@ ghost use Rattle.std.specs.Prelude.{IfOk, IsTrue};
 ghost use Rattle.vx_eval.specs.Literals.{literals_fit};
 
 use crate::fixtures::{call_one, call_two, choice, is_same_over};
-use crate::samples::{Encoding, column};
+use crate::samples::{ENCODINGS, column};
 use std::alloc::{AllocError, Global};
 use std::test::Fail;
 use vx_expr::{Expr, Func};
@@ -40,17 +40,19 @@ fn faulty_bool(alloc: Global, argument: u32) -> Result<Expr, AllocError>
     call_two(alloc, Func::Lte, number, Expr::Column(0))
 }
 
-/// Whether evaluation over a batch and that of its rows are the same over two ints and two texts.
+/// Whether evaluation over a batch and that of its rows are the same over two ints and two texts, in each pair of encodings.
 fn is_same(alloc: Global, e: &Expr) -> Result<bool, AllocError>
     requires { IsTrue (literals_fit e.now) }
 {
-    for encoding in [Encoding::Flat, Encoding::Dictionary] {
-        let a = column(alloc, Kind::Int, encoding, 0)?;
-        let b = column(alloc, Kind::Int, encoding, 1)?;
-        let s = column(alloc, Kind::Text, encoding, 0)?;
-        let t = column(alloc, Kind::Text, encoding, 1)?;
-        if !is_same_over(alloc, e, vec![in alloc; a, b, s, t]?)? {
-            return Ok(false);
+    for left in ENCODINGS {
+        for right in ENCODINGS {
+            let a = column(alloc, Kind::Int, left, 0)?;
+            let b = column(alloc, Kind::Int, right, 1)?;
+            let s = column(alloc, Kind::Text, left, 0)?;
+            let t = column(alloc, Kind::Text, right, 1)?;
+            if !is_same_over(alloc, e, vec![in alloc; a, b, s, t]?)? {
+                return Ok(false);
+            }
         }
     }
     Ok(true)

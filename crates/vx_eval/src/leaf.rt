@@ -12,8 +12,8 @@ use std::alloc::{AllocError, Global};
 use vx_value::{Kind, Value};
 use vx_vector::{Bools, FINE, Ints, Lanes, NULL, Texts};
 
-#[tactic(auto, using(crate::proofs::TextLemmas::text_got))]
 /// A literal on each row; a text is copied on the wanted ones alone.
+#[tactic(auto, using(crate::proofs::TextLemmas::text_got))]
 pub(crate) fn literal_lanes(
     alloc: Global,
     value: &Value,

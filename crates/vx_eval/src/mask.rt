@@ -1,4 +1,4 @@
-ghost use Rattle.std.specs.Prelude.{◌≡◌, ℕ, ◌<◌, length, get_or, None, All, IfOk, IsTrue};
+ghost use Rattle.std.specs.Prelude.{◌≡◌, ◌≢◌, ℕ, ◌<◌, length, get_or, None, All, IfOk, IsTrue};
 ghost use Rattle.vx_eval.specs.Got.{fault_under};
 ghost use Rattle.vx_vector.specs.Lanes.{rows_of, lane_at};
 ghost use Rattle.vx_vector.specs.Selection.{ascends};
@@ -28,7 +28,7 @@ impl Model for FaultMask {
 }
 
 impl FaultMask {
-    /// The fault of a row, by its place in the batch.
+    /// The fault of a row, by its place in the batch; none of a row that wasn't selected.
     pub fn get(&self, row: u32) -> Option<Fault>
         ensures { result ≡ get_or self.now row None }
     {
@@ -49,7 +49,8 @@ pub(crate) fn faults_of(
 ) -> Result<FaultMask, AllocError>
     requires rows { rows_of lanes.now ≡ length rows.now }
     requires places { All (λ p. p < count) rows.now }
-    ensures { IfOk result (λ m. (k : ℕ) → k < length rows.now → get_or m (get_or rows.now k 0) None ≡ fault_under (lane_at lanes.now k).mark) }
+    ensures told { IfOk result (λ m. (k : ℕ) → k < length rows.now → get_or m (get_or rows.now k 0) None ≡ fault_under (lane_at lanes.now k).mark) }
+    ensures others { IfOk result (λ m. (place : ℕ) → All (λ q. q ≢ place) rows.now → get_or m place None ≡ None) }
 {
     if !lanes.has_fault() {
         return Ok(FaultMask {
@@ -60,6 +61,7 @@ pub(crate) fn faults_of(
     Ok(FaultMask { faults })
 }
 
+#[tactic(auto, using(crate::proofs::MaskLemmas::none_yet))]
 fn told_by_place(
     alloc: Global,
     lanes: &Lanes,
@@ -69,7 +71,8 @@ fn told_by_place(
     requires rows { rows_of lanes.now ≡ length places.now }
     requires places { All (λ p. p < count) places.now }
     requires ascends { IsTrue (ascends places.now) }
-    ensures { IfOk result (λ faults. (k : ℕ) → k < length places.now → get_or faults.items (get_or places.now k 0) None ≡ fault_under (lane_at lanes.now k).mark) }
+    ensures told { IfOk result (λ faults. (k : ℕ) → k < length places.now → get_or faults.items (get_or places.now k 0) None ≡ fault_under (lane_at lanes.now k).mark) }
+    ensures others { IfOk result (λ faults. (place : ℕ) → All (λ q. q ≢ place) places.now → get_or faults.items place None ≡ None) }
 {
     let mut faults = vec![in alloc; None; count]?;
     for row in 0..places.len() {

@@ -4,6 +4,7 @@ ghost use Rattle.vx_vector.specs.Selection.{ascends};
 ghost use Rattle.vx_eval.specs.Literals.{literals_fit};
 
 use crate::fixtures::{agrees, are_even, call_one, call_two, choice, evaluated};
+use crate::mask::FaultMask;
 use crate::samples::{stored, text};
 use std::alloc::{AllocError, Global};
 use std::test::Fail;
@@ -69,7 +70,17 @@ fn gives(
             return Ok(false);
         }
     }
-    Ok(true)
+    Ok(has_none_elsewhere(&faults, places))
+}
+
+/// Whether no row of three has a fault but those at these places.
+fn has_none_elsewhere(faults: &FaultMask, places: &[u32]) -> bool {
+    for place in 0..3 {
+        if !places.contains(&place) && faults.get(place).is_some() {
+            return false;
+        }
+    }
+    true
 }
 
 /// `or(eq(col, 0), gt(divide(10, col), 1))`, as in `examples/filter.json`
@@ -138,6 +149,23 @@ fn a_text_is_chosen(rt: HostRuntime) -> Result<(), Fail> {
     ]?;
     let columns = project_columns(alloc)?;
     assert!(rt; gives(alloc, &e, columns, &[0, 1, 2], wanted.as_slice())?);
+    Ok(())
+}
+
+#[test]
+fn a_column_is_its_values(rt: HostRuntime) -> Result<(), Fail> {
+    let alloc = rt.alloc();
+    let wanted = vec![in alloc; number(2), number(0), null()]?;
+    let columns = project_columns(alloc)?;
+    assert!(rt;
+        gives(
+            alloc,
+            &Expr::Column(1),
+            columns,
+            &[0, 1, 2],
+            wanted.as_slice()
+        )?
+    );
     Ok(())
 }
 

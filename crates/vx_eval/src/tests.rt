@@ -1,5 +1,5 @@
 use crate::fixtures::{call_one, call_two, choice, is_same_over};
-use crate::samples::{ENCODINGS, Encoding, column};
+use crate::samples::{ENCODINGS, column};
 use std::alloc::{AllocError, Global};
 use std::test::Fail;
 use vx_expr::{Expr, Func};
@@ -54,16 +54,18 @@ fn is_same_of_two(alloc: Global, func: Func, kind: Kind) -> Result<bool, AllocEr
     Ok(true)
 }
 
-/// `if` of a bool and two columns, in each pair of encodings of the condition and the second.
+/// `if` of a bool and two columns, each in each encoding.
 fn is_same_of_choice(alloc: Global, kind: Kind) -> Result<bool, AllocError> {
     let e = choice(alloc, Expr::Column(0), Expr::Column(1), Expr::Column(2))?;
     for condition in ENCODINGS {
         for left in ENCODINGS {
-            let c = column(alloc, Kind::Bool, condition, 0)?;
-            let a = column(alloc, kind, left, 1)?;
-            let b = column(alloc, kind, Encoding::Dictionary, 2)?;
-            if !is_same_over(alloc, &e, vec![in alloc; c, a, b]?)? {
-                return Ok(false);
+            for right in ENCODINGS {
+                let c = column(alloc, Kind::Bool, condition, 0)?;
+                let a = column(alloc, kind, left, 1)?;
+                let b = column(alloc, kind, right, 2)?;
+                if !is_same_over(alloc, &e, vec![in alloc; c, a, b]?)? {
+                    return Ok(false);
+                }
             }
         }
     }

@@ -1,8 +1,7 @@
 ghost use Rattle.std.specs.Prelude.{◌≡◌, ℕ, ◌<◌, length, get_or, refl, IfOk};
 ghost use Rattle.vx_value.specs.declared.value.Value.TheVariants as value;
-ghost use Rattle.vx_value.specs.Order.{cmp_values};
 ghost use Rattle.vx_expr.specs.Eval as eval;
-ghost use Rattle.vx_eval.specs.Got.{got_of, got_under};
+ghost use Rattle.vx_eval.specs.Got.{got_of};
 ghost use Rattle.vx_vector.specs.Lane.{text_at};
 ghost use Rattle.vx_vector.specs.Lanes.{bool_lane, int_lane, text_lane};
 

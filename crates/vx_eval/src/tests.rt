@@ -1,5 +1,8 @@
+ghost use Rattle.std.specs.Prelude.{IsTrue};
+ghost use Rattle.vx_eval.specs.Literals.{literals_fit};
+
 use crate::fixtures::{call_one, call_two, choice, is_same_over};
-use crate::samples::{ENCODINGS, column};
+use crate::samples::{ENCODINGS, Encoding, column};
 use std::alloc::{AllocError, Global};
 use std::test::Fail;
 use vx_expr::{Expr, Func};
@@ -59,14 +62,30 @@ fn is_same_of_choice(alloc: Global, kind: Kind) -> Result<bool, AllocError> {
     let e = choice(alloc, Expr::Column(0), Expr::Column(1), Expr::Column(2))?;
     for condition in ENCODINGS {
         for left in ENCODINGS {
-            for right in ENCODINGS {
-                let c = column(alloc, Kind::Bool, condition, 0)?;
-                let a = column(alloc, kind, left, 1)?;
-                let b = column(alloc, kind, right, 2)?;
-                if !is_same_over(alloc, &e, vec![in alloc; c, a, b]?)? {
-                    return Ok(false);
-                }
+            if !is_same_beside(alloc, &e, kind, condition, left)? {
+                return Ok(false);
             }
+        }
+    }
+    Ok(true)
+}
+
+/// The same for one encoding of the condition and one of the second.
+fn is_same_beside(
+    alloc: Global,
+    e: &Expr,
+    kind: Kind,
+    condition: Encoding,
+    left: Encoding,
+) -> Result<bool, AllocError>
+    requires { IsTrue (literals_fit e.now) }
+{
+    for right in ENCODINGS {
+        let c = column(alloc, Kind::Bool, condition, 0)?;
+        let a = column(alloc, kind, left, 1)?;
+        let b = column(alloc, kind, right, 2)?;
+        if !is_same_over(alloc, e, vec![in alloc; c, a, b]?)? {
+            return Ok(false);
         }
     }
     Ok(true)

@@ -1,4 +1,4 @@
-//! Expressions of the plans of `examples/`, a selection, and long texts, against results spelled by hand.
+//! Expressions of the plans of `examples/`, filters and projects, and long texts, against results spelled by hand.
 ghost use Rattle.std.specs.Prelude.{IfOk, IsTrue};
 ghost use Rattle.vx_vector.specs.Selection.{ascends};
 ghost use Rattle.vx_eval.specs.Literals.{literals_fit};
@@ -47,6 +47,14 @@ fn texts(alloc: Global, words: &[&str]) -> Result<Vector, AllocError> {
     stored(alloc, Kind::Text, values.as_slice())
 }
 
+/// A batch of three rows.
+fn batch_of(columns: Vec<Vector>) -> Result<Batch, AllocError> {
+    if !are_even(columns.as_slice(), 3) {
+        return Err(AllocError);
+    }
+    Ok(Batch { columns, rows: 3 })
+}
+
 /// Whether an expression over these columns gives this at these places.
 fn gives(
     alloc: Global,
@@ -58,13 +66,26 @@ fn gives(
     requires literals { IsTrue (literals_fit e.now) }
     requires places { IsTrue (ascends places.now) }
 {
-    if !are_even(columns.as_slice(), 3) || wanted.len() != places.len() {
+    let batch = batch_of(columns)?;
+    gives_at(alloc, e, &batch, &Selection::of(alloc, places)?, wanted)
+}
+
+/// Whether an expression gives this on these rows of a batch, and no fault on another.
+fn gives_at(
+    alloc: Global,
+    e: &Expr,
+    batch: &Batch,
+    rows: &Selection,
+    wanted: &[Got],
+) -> Result<bool, AllocError>
+    requires { IsTrue (literals_fit e.now) }
+{
+    let (values, faults) = evaluated(alloc, e, batch, rows)?;
+    let places = rows.places();
+    if wanted.len() != places.len() {
         return Err(AllocError);
     }
-    let batch = Batch { columns, rows: 3 };
-    let rows = Selection::of(alloc, places)?;
-    let (values, faults) = evaluated(alloc, e, &batch, &rows)?;
-    for k in 0..wanted.len() {
+    for k in 0..places.len() {
         let at = u32::try_from(k).map_err(|_| AllocError)?;
         if !agrees(&wanted[k], values.get(at), faults.get(places[k])) {
             return Ok(false);
@@ -103,6 +124,89 @@ fn a_predicate_is_true_false_or_null(rt: HostRuntime) -> Result<(), Fail> {
     Ok(())
 }
 
+/// The places of a batch on which a predicate is true.
+fn places_kept(alloc: Global, predicate: &Expr, batch: &Batch) -> Result<Vec<u32>, AllocError>
+    requires { IsTrue (literals_fit predicate.now) }
+{
+    let rows = Selection::first(alloc, batch.rows)?;
+    let (values, faults) = evaluated(alloc, predicate, batch, &rows)?;
+    let places = rows.places();
+    let mut kept = Vec::new(alloc);
+    for k in 0..places.len() {
+        let at = u32::try_from(k).map_err(|_| AllocError)?;
+        if agrees(&truth(true), values.get(at), faults.get(places[k])) {
+            kept.push(places[k])?;
+        }
+    }
+    Ok(kept)
+}
+
+/// Whether a filter keeps just the rows at these places, and a project over what it keeps gives this.
+fn keeps_and_gives(
+    alloc: Global,
+    predicate: &Expr,
+    e: &Expr,
+    columns: Vec<Vector>,
+    places: &[u32],
+    wanted: &[Got],
+) -> Result<bool, AllocError>
+    requires predicate { IsTrue (literals_fit predicate.now) }
+    requires literals { IsTrue (literals_fit e.now) }
+    requires places { IsTrue (ascends places.now) }
+{
+    let batch = batch_of(columns)?;
+    let kept = places_kept(alloc, predicate, &batch)?;
+    if kept.as_slice() != places {
+        return Ok(false);
+    }
+    let rows = Selection::of(alloc, kept.as_slice())?;
+    gives_at(alloc, e, &batch, &rows, wanted)
+}
+
+#[test]
+fn a_filter_keeps_where_its_predicate_is_true(rt: HostRuntime) -> Result<(), Fail> {
+    let alloc = rt.alloc();
+    let e = predicate(alloc)?;
+    let column = ints(alloc, &[Some(0), Some(3), None])?;
+    let columns = vec![in alloc; column]?;
+    let wanted = vec![in alloc; number(0), number(3)]?;
+    assert!(rt;
+        keeps_and_gives(
+            alloc,
+            &e,
+            &Expr::Column(0),
+            columns,
+            &[0, 1],
+            wanted.as_slice()
+        )?
+    );
+    Ok(())
+}
+
+#[test]
+fn what_a_filter_drops_has_no_fault_in_a_project(rt: HostRuntime) -> Result<(), Fail> {
+    let alloc = rt.alloc();
+    let is_other = call_two(alloc, Func::Neq, Expr::Column(0), int(0))?;
+    let e = ten_by(alloc, 0)?;
+    let column = ints(alloc, &[Some(2), Some(0), Some(5)])?;
+    let columns = vec![in alloc; column]?;
+    let wanted = vec![in alloc; number(5), number(2)]?;
+    assert!(rt; keeps_and_gives(alloc, &is_other, &e, columns, &[0, 2], wanted.as_slice())?);
+    Ok(())
+}
+
+#[test]
+fn a_project_has_the_fault_of_its_row(rt: HostRuntime) -> Result<(), Fail> {
+    let alloc = rt.alloc();
+    let e = ten_by(alloc, 0)?;
+    let column = ints(alloc, &[Some(2), Some(0), Some(5)])?;
+    let columns = vec![in alloc; column]?;
+    let by_zero = Got::Fault(Fault::DivideByZero);
+    let wanted = vec![in alloc; number(5), by_zero, number(2)]?;
+    assert!(rt; gives(alloc, &e, columns, &[0, 1, 2], wanted.as_slice())?);
+    Ok(())
+}
+
 fn truth(b: bool) -> Got {
     Got::Value(Value::Bool(b))
 }
@@ -129,9 +233,14 @@ fn project_columns(alloc: Global) -> Result<Vec<Vector>, AllocError> {
 #[test]
 fn a_quotient_is_tried(rt: HostRuntime) -> Result<(), Fail> {
     let alloc = rt.alloc();
+    let e = call_one(alloc, Func::Try, ten_by(alloc, 0)?)?;
+    let column = ints(alloc, &[Some(2), Some(0), Some(5)])?;
+    let columns = vec![in alloc; column]?;
+    let wanted = vec![in alloc; number(5), null(), number(2)]?;
+    assert!(rt; gives(alloc, &e, columns, &[0, 1, 2], wanted.as_slice())?);
     let e = call_one(alloc, Func::Try, ten_by(alloc, 1)?)?;
-    let wanted = vec![in alloc; number(5), null(), null()]?;
     let columns = project_columns(alloc)?;
+    let wanted = vec![in alloc; number(5), null(), null()]?;
     assert!(rt; gives(alloc, &e, columns, &[0, 1, 2], wanted.as_slice())?);
     Ok(())
 }

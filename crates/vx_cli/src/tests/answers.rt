@@ -139,11 +139,24 @@ fn a_text_past_the_longest_is_a_fault(rt: HostRuntime) -> Result<(), Fail> {
     let long = String::from_utf8(vec![in alloc; b'a'; 65_535]?)?;
     let rows = format!(in alloc; r#"[["{long}"]]"#)?;
     let source = values(alloc, r#"["text"]"#, rows.as_str())?;
-    let root = format!(in alloc;
-        r#"{{"node":"project","id":1,"exprs":[["try",["concat",["col",0],["lit","x"]]]],"source":{source}}}"#
-    )?;
-    let got = answer(&rt, alloc, root.as_str())?;
-    assert_eq!(rt; got.as_str(), "0 ok 1\n[null]\n|");
+    let fault = format!(in alloc; "1 error fault node=1 code=too_long row=[\"{long}\"]\n|")?;
+    for (e, wanted) in [
+        (r#"["concat",["col",0],["lit","x"]]"#, fault.as_str()),
+        (
+            r#"["try",["concat",["col",0],["lit","x"]]]"#,
+            "0 ok 1\n[null]\n|",
+        ),
+        (
+            r#"["byte_length",["concat",["col",0],["lit",""]]]"#,
+            "0 ok 1\n[65535]\n|",
+        ),
+    ] {
+        let root = format!(in alloc;
+            r#"{{"node":"project","id":1,"exprs":[{e}],"source":{source}}}"#
+        )?;
+        let got = answer(&rt, alloc, root.as_str())?;
+        assert!(rt; got.as_str() == wanted, "of {e}");
+    }
     Ok(())
 }
 

@@ -1,5 +1,5 @@
 //! What the log says: one entry for each change of a job's capacity.
-ghost use Rattle.std.specs.Prelude.{◌≡◌, length};
+ghost use Rattle.std.specs.Prelude.{◌≡◌};
 
 use std::marker::Model;
 

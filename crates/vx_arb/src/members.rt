@@ -1,5 +1,5 @@
 //! What the arbitrator asks of a query.
-ghost use Rattle.std.specs.Prelude.{◌≡◌, ◌+◌, ◌-◌, ◌^◌, ◌<◌, ◌≤◌, true, false, zero, IfSome};
+ghost use Rattle.std.specs.Prelude.{◌≡◌, ◌+◌, ◌-◌, ◌^◌, ◌<◌, ◌≤◌, true, false, IfSome};
 ghost use Rattle.vx_arb.specs.Members.{IsWithin, IsLackOf, OnShort, lack_of, is_end};
 
 use crate::AbortNote;

@@ -1,6 +1,6 @@
 //! A request for capacity, in the hands of the one who begun it.
-ghost use Rattle.std.specs.Prelude.{◌≡◌, ◌+◌, ◌-◌, ◌<◌, ◌≤◌, ◌^◌, false, [], length, IfOk};
-ghost use Rattle.vx_arb.specs.Books.{has_look, with_look, after_look, after_move};
+ghost use Rattle.std.specs.Prelude.{◌≡◌, ◌-◌, ◌<◌, ◌^◌, false, [], length, IfOk};
+ghost use Rattle.vx_arb.specs.Books.{has_look, after_look, after_move};
 ghost use Rattle.vx_arb.specs.Unmet.{AreSingle};
 
 use crate::sights::seat_of;
@@ -26,7 +26,7 @@ impl Model for Request {
 
     ghost Value = { Asked };
 
-    ghost use Rattle.std.specs.Prelude.{◌+◌, ◌<◌, ◌≤◌, ◌^◌, length, vec_len, vec_capacity};
+    ghost use Rattle.std.specs.Prelude.{◌<◌, ◌^◌, length, vec_capacity};
     ghost use Rattle.vx_arb.specs.Keeping.{IsRequest};
 
     ghost view = { λ request. record {

@@ -1,7 +1,7 @@
-ghost use Rattle.std.specs.Prelude.{◌≡◌, ◌≢◌, ◌+◌, ◌*◌, ◌^◌, ◌<◌, ◌≤◌, [], ◌∷◌, IfOk, OnErr, MatchOption, length, take, drop};
+ghost use Rattle.std.specs.Prelude.{◌≡◌, ◌≢◌, ◌+◌, ◌*◌, ◌^◌, ◌<◌, ◌≤◌, [], IfOk, OnErr, MatchOption, length, take, drop};
 ghost use Rattle.vx_arena.specs.Chunks.{held_by};
 ghost use Rattle.vx_arena.specs.Names.{none, named};
-ghost use Rattle.vx_arena.specs.Free.{class_len, class_of, IsLive, Frees, Wakes, Gives, HasNone, Grows, Halves, Writes, next_in};
+ghost use Rattle.vx_arena.specs.Free.{class_of, IsLive, Frees, Gives, HasNone, Grows, Halves, Writes, next_in};
 ghost use Rattle.vx_raw.specs.Region.{written};
 
 use crate::blocks::Blocks;

@@ -2,7 +2,7 @@ ghost use Rattle.std.specs.Prelude.{◌≡◌, ◌≢◌, ◌+◌, ◌^◌, ◌<
 ghost use Rattle.vx_raw.specs.Region.{written};
 ghost use Rattle.vx_arena.specs.Chunks.{IsBlock, block_at, held_by};
 ghost use Rattle.vx_arena.specs.Names.{name_of, place_of, none, block_of, named, IsNamed, Changes};
-ghost use Rattle.vx_arena.specs.Free.{next_in, with_links, with_before, SetsBefore, Splits, Adds};
+ghost use Rattle.vx_arena.specs.Free.{next_in, with_links, SetsBefore, Splits, Adds};
 
 use crate::blocks::Blocks;
 use crate::words::pair;

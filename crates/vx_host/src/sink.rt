@@ -1,4 +1,4 @@
-ghost use Rattle.std.specs.Prelude.{◌≡◌, ◌<◌, ◌≤◌, ◌+◌, ◌-◌, ◌^◌, ◌↔◌, [], Some, min, length, true, IfOk, OnErr, IsErrOf, Contains};
+ghost use Rattle.std.specs.Prelude.{◌≡◌, ◌<◌, ◌-◌, IfOk, OnErr};
 ghost use Rattle.vx_base.specs.Causes.{HasCause};
 ghost use Rattle.vx_host.specs.Views.{SinkView};
 ghost use Rattle.vx_host.specs.Sink.{Takes, StaysUnfailing};

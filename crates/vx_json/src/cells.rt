@@ -1,4 +1,4 @@
-ghost use Rattle.std.specs.Prelude.{◌≡◌, IfOk, IsUtf8};
+ghost use Rattle.std.specs.Prelude.{◌≡◌, IfOk};
 ghost use Rattle.serde_json.specs.Data.{boolean, number as number_data, string as string_data};
 ghost use Rattle.serde_json.specs.View.{view, number_view};
 ghost use Rattle.vx_json.specs.Lists.{or_misfit};

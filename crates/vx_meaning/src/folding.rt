@@ -1,5 +1,5 @@
-ghost use Rattle.std.specs.Prelude.{◌≡◌, ◌++◌, ◌∷◌, [], option_map, IfOk, OnOk};
-ghost use Rattle.vx_meaning.specs.Folds.{fold_of, folds_of, finish, finish_all};
+ghost use Rattle.std.specs.Prelude.{◌≡◌, IfOk};
+ghost use Rattle.vx_meaning.specs.Folds.{fold_of, finish};
 ghost use Rattle.vx_meaning.specs.Picks.{pick_name};
 ghost use Rattle.vx_meaning.specs.Sums.{Pushes, fold_in, items_of, finished_by};
 

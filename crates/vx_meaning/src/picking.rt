@@ -1,6 +1,5 @@
 ghost use Rattle.std.specs.Prelude.{◌≡◌, ◌&&◌, ◌||◌, Bool};
 ghost use Rattle.vx_value.specs.Value.{owned, IsLawful};
-ghost use Rattle.vx_plan.specs.declared.aggregate.Aggregate.{Aggregate as AggregateRecord};
 ghost use Rattle.vx_meaning.specs.Folds as folds;
 ghost use Rattle.vx_meaning.specs.Picks.{pick_name};
 ghost use Rattle.vx_meaning.specs.Sums.{fold_in};

@@ -1,6 +1,6 @@
 ghost use Rattle.std.specs.Prelude.{◌≡◌, ◌++◌, [], ◌∷◌, take, drop, IfOk, IfErr, OnOk};
-ghost use Rattle.vx_meaning.specs.Lines.{Filtered, Projected, Limited};
-ghost use Rattle.vx_meaning.specs.Rows.{image, first_fault};
+ghost use Rattle.vx_meaning.specs.Lines.{Filtered, Projected};
+ghost use Rattle.vx_meaning.specs.Rows.{image};
 ghost use Rattle.vx_meaning.specs.Stopped.{IfFault, Exactly, StopsAmong};
 ghost use Rattle.vx_meaning.specs.Images.{IsImage, IsVerdict};
 

@@ -1,8 +1,7 @@
-ghost use Rattle.std.specs.Prelude.{◌≡◌, ◌≢◌, ◌≤◌, ◌<◌, ◌^◌, ◌+ℤ◌, ◌||◌, ℤ, pos, length, FitsSigned, OnOk, IfOk, MatchOption, true, false, if◌then◌else◌, ◌++◌};
-ghost use Rattle.std.specs.Int.{w64, w128, int_div_euclid, int_rem_euclid};
+ghost use Rattle.std.specs.Prelude.{◌≡◌, ◌≢◌, ◌<◌, ◌^◌, ◌+ℤ◌, ◌||◌, ℤ, pos, length, FitsSigned, OnOk, IfOk, true, false, if◌then◌else◌, ◌++◌};
+ghost use Rattle.std.specs.Int.{w128, int_div_euclid, int_rem_euclid};
 ghost use Rattle.vx_value.specs.Value.{owned};
-ghost use Rattle.vx_expr.specs.Eval.{fits};
-ghost use Rattle.vx_meaning.specs.Folds.{added, int_only, wide, part, one_cell, two_cells, one_unless_null};
+ghost use Rattle.vx_meaning.specs.Folds.{int_only, wide, part, one_cell, two_cells, one_unless_null};
 ghost use Rattle.vx_meaning.specs.Sums.{number_of, total_value, fold_in, both, IsInt, IsWithin, Pushes};
 
 use crate::cells::{cell, next_cell};

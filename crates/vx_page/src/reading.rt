@@ -1,4 +1,4 @@
-ghost use Rattle.std.specs.Prelude.{◌≡◌, List, length, IfOk, Ok};
+ghost use Rattle.std.specs.Prelude.{◌≡◌, List, IfOk, Ok};
 ghost use Rattle.std.specs.Str.{is_utf8};
 ghost use Rattle.std.specs.Int.{w16, w32, w64, w128};
 ghost use Rattle.vx_page.specs.Page.{Cells, IsPageOf};

@@ -1,4 +1,4 @@
-ghost use Rattle.std.specs.Prelude.{◌≡◌, ◌<◌, ◌*◌, ◌∷◌, [], length, All, IfOk};
+ghost use Rattle.std.specs.Prelude.{◌<◌, ◌*◌, ◌∷◌, [], length, IfOk};
 ghost use Rattle.vx_value.specs.declared.value.Kind.TheVariants as kind;
 ghost use Rattle.vx_value.specs.declared.value.Value.TheVariants as value;
 ghost use Rattle.vx_page.specs.declared.cell.Cell.TheVariants as cell;

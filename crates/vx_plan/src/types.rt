@@ -1,4 +1,4 @@
-ghost use Rattle.std.specs.Prelude.{◌≡◌, ◌≤◌, ◌+◌, true, map, length, zip, slice_get, Ok, IfOk};
+ghost use Rattle.std.specs.Prelude.{◌≡◌, ◌≤◌, true, map, length, slice_get, Ok, IfOk};
 ghost use Rattle.vx_expr.specs.Typing.{type_of as type_of_expr, all_kinds};
 ghost use Rattle.vx_plan.specs.declared.refusal.LimitName.TheVariants.{Columns};
 ghost use Rattle.vx_plan.specs.Limits.{columns, columns_joined, keeps_everywhere};

@@ -1,4 +1,4 @@
-ghost use Rattle.std.specs.Prelude.{◌≡◌, ℕ, ◌+◌, ◌^◌, ◌≤◌, List, [], IfOk, length, take, drop, replicate, unwrap_or};
+ghost use Rattle.std.specs.Prelude.{◌≡◌, ℕ, ◌+◌, ◌≤◌, List, [], IfOk, length, take, drop, replicate, unwrap_or};
 ghost use Rattle.vx_raw.specs.Region.{written};
 
 use crate::block::{Bytes, Deed, Start, Taken, allocate, clear, deallocate};

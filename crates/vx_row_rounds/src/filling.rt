@@ -1,5 +1,5 @@
 //! Rows are added and erased; the numbers that they have are kept.
-ghost use Rattle.std.specs.Prelude.{◌≡◌, [], ◌<◌, length};
+ghost use Rattle.std.specs.Prelude.{◌≡◌, ◌<◌};
 ghost use Rattle.vx_vector.specs.Batch.{kinds_of};
 ghost use Rattle.vx_row_rounds.specs.Rounds.{AreKept};
 

@@ -1,9 +1,9 @@
-ghost use Rattle.std.specs.Prelude.{◌≡◌, ◌+◌, ◌/◌, ◌%◌, ◌<◌, ◌≤◌, [], ◌∷◌, length, replicate, slice_index, slice_set, IfOk};
+ghost use Rattle.std.specs.Prelude.{◌≡◌, ◌+◌, ◌/◌, ◌%◌, ◌<◌, ◌≤◌, length, replicate, slice_index, slice_set, IfOk};
 ghost use Rattle.std.specs.Vec.{vec_len};
 ghost use Rattle.vx_raw.specs.Region.{written};
 ghost use Rattle.vx_value.specs.declared.value.Kind.TheVariants as kinds;
 ghost use Rattle.vx_rows.specs.Body.{CanBeSpelled, FitsField, Puts, all_stored, bytes_of, read_slot, seen, spelled, stored_in};
-ghost use Rattle.vx_rows.specs.Layout.{body_len, cell_len, field_at, place_of as place_in};
+ghost use Rattle.vx_rows.specs.Layout.{body_len, cell_len, field_at};
 ghost use Rattle.vx_rows.specs.Nulls.{SetsBit};
 ghost use Rattle.vx_rows.specs.Texts.{empty_of};
 

@@ -1,4 +1,4 @@
-ghost use Rattle.std.specs.Prelude.{◌≡◌, ◌+◌, ◌*◌, ◌^◌, ◌≤◌, ◌<◌, ◌↔◌, Some, None, true, [], length, map, slice_index_or, slice_set, All, IfOk, OnErr, OnOk, IfSome, IsTrue, is_some};
+ghost use Rattle.std.specs.Prelude.{◌≡◌, ◌+◌, ◌*◌, ◌^◌, ◌≤◌, ◌<◌, ◌↔◌, None, true, [], length, slice_index_or, slice_set, All, IfOk, OnErr, OnOk, IfSome, IsTrue, is_some};
 ghost use Rattle.std.specs.List.{filter, range_with_len, sum_by};
 ghost use Rattle.std.specs.Int.{div_ceil};
 ghost use Rattle.vx_arena.specs.Chunks.{held_by};

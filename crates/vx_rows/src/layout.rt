@@ -1,5 +1,5 @@
 ghost use Rattle.std.specs.Prelude.{◌≡◌, ◌+◌, ◌/◌, ◌<◌, ◌≤◌, length, IfOk};
-ghost use Rattle.vx_rows.specs.Layout.{body_len, field_at, field_len, fields_of, null_len, place_of, row_len, rows_a_chunk};
+ghost use Rattle.vx_rows.specs.Layout.{body_len, field_at, fields_of, null_len, place_of, row_len, rows_a_chunk};
 
 use crate::fields::{Extra, Fields};
 use std::alloc::{AllocError, Global};

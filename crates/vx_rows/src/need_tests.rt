@@ -1,4 +1,3 @@
-ghost use Rattle.std.specs.Prelude.{◌≤◌, length};
 ghost use Rattle.vx_value.specs.Value.{IsText};
 
 use crate::layout::Layout;

@@ -1,4 +1,4 @@
-ghost use Rattle.std.specs.Prelude.{◌≡◌, ◌+◌, ◌/◌, ◌<◌, length};
+ghost use Rattle.std.specs.Prelude.{◌≡◌, ◌/◌, ◌<◌, length};
 ghost use Rattle.vx_rows.specs.Nulls.{is_null_in, SetsBit};
 
 /// Whether the field is null, by the null bits that these bytes begin with.

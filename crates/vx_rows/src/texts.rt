@@ -6,7 +6,7 @@ ghost use Rattle.vx_vector.specs.Batch.{kinds_of, row_of};
 ghost use Rattle.std.specs.List.{sum_by};
 ghost use Rattle.vx_rows.specs.Layout.{body_len};
 ghost use Rattle.vx_rows.specs.Body.{all_stored, long, seen};
-ghost use Rattle.vx_rows.specs.Texts.{value_of, text_cost, StandsAt, IsKept, Adds, Fills, HasColumns, Holds, empty_of, Frees, Keeps, Stores};
+ghost use Rattle.vx_rows.specs.Texts.{value_of, text_cost, StandsAt, IsKept, Fills, HasColumns, Holds, empty_of, Frees, Keeps, Stores};
 
 use crate::body::{field, put};
 use crate::field::FieldRef;

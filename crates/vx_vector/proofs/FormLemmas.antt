@@ -128,19 +128,10 @@ pub lane_or_null_same : (l copy : Lanes) → AreLanes (kind_of l) (rows_of l) (l
 lane_or_null_same l copy are None h = ap absent are.kind
 lane_or_null_same l copy are (Some p) h = are.at p h
 
-pub copied_flat : (l copy : Lanes) → AreLanes (kind_of l) (rows_of l) (lane_at l) copy → map (λ k. value_of (lane_at copy k)) (range_with_len 0 (rows_of copy)) ≡ map (λ k. value_of (lane_at l k)) (range_with_len 0 (rows_of l))
-copied_flat l copy are = range_same _ _ (rows_of copy) (rows_of l) Null are.rows (λ (k : ℕ) (h : k < rows_of l). ap value_of (are.at k h))
-
-pub copied_constant : (l copy : Lanes) (n : ℕ) → AreLanes (kind_of l) (rows_of l) (lane_at l) copy → rows_of l ≡ 1 → map (λ (k : ℕ). value_of (lane_at copy 0)) (range_with_len 0 n) ≡ map (λ (k : ℕ). value_of (lane_at l 0)) (range_with_len 0 n)
-copied_constant l copy n are one = ap (λ (v : Value). map (λ (k : ℕ). v) (range_with_len 0 n)) (ap value_of (are.at 0 (omega arith)))
-
 pub copied_dictionary : (l copy : Lanes) (index now : List (Option ℕ)) → AreLanes (kind_of l) (rows_of l) (lane_at l) copy → now ≡ index → All (IsIn (rows_of l)) index → map (λ k. value_of (lane_or_null copy (get_or now k None))) (range_with_len 0 (length now)) ≡ map (λ k. value_of (lane_or_null l (get_or index k None))) (range_with_len 0 (length index))
 copied_dictionary l copy index now are same within =
     range_same _ _ (length now) (length index) Null (ap length same)
     (λ (k : ℕ) (h : k < length index). ap (λ (xs : List (Option ℕ)). value_of (lane_or_null copy (get_or xs k None))) same ∙ ap value_of (lane_or_null_same l copy are (get_or index k None) (within k None h)))
-
-pub copied_within : (l copy : Lanes) (index now : List (Option ℕ)) → AreLanes (kind_of l) (rows_of l) (lane_at l) copy → now ≡ index → All (IsIn (rows_of l)) index → All (IsIn (rows_of copy)) now
-copied_within l copy index now are same within = subst (λ (n : ℕ). All (IsIn n) now) (sym are.rows) (subst (All (IsIn (rows_of l))) (sym same) within)
 
 -- ---- selections
 

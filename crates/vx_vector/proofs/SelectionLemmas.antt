@@ -33,8 +33,10 @@ range_is_selection n places e = rw e (record {
   each = (λ _. ap (range_with_len 0) (sym (length-range_with_len 0 n)), λ _. refl);
 })
 
-pub at_own_place : (places : List ℕ) → places ≡ range_with_len 0 (length places) → (k : ℕ) → k < length places → get_or places k 0 ≡ k
-at_own_place places e k h = ap (λ l. get_or l k 0) e ∙ first_at k (length places) h
+-- a place among the first ones is its own number
+pub own_place : (places : List ℕ) (n : ℕ) → places ≡ range_with_len 0 n → (k : ℕ) → k < length places → get_or places k 0 ≡ k
+own_place places n all k h =
+    ap (λ l. get_or l k 0) all ∙ first_at k n (omega (arith, ap length all, length-range_with_len 0 n))
 
 pub ranges_joined : (a n m j s : ℕ) → a + n ≡ j → n + m ≡ s → range_with_len a s ≡ range_with_len a n ++ range_with_len j m
 ranges_joined a zero m j s e f =
@@ -61,7 +63,3 @@ are_all places seen m n false own same count = (
       let ends : n ≡ length seen = sym (ap length all ∙ length-range_with_len 0 n) in
       own.1 (subst (λ (k : ℕ). seen ≡ range_with_len 0 k) ends all),
 )
-
-pub own_place : (places : List ℕ) (n : ℕ) → places ≡ range_with_len 0 n → (k : ℕ) → k < length places → get_or places k 0 ≡ k
-own_place places n all k h =
-    ap (λ l. get_or l k 0) all ∙ first_at k n (omega (arith, ap length all, length-range_with_len 0 n))

@@ -1,6 +1,5 @@
-ghost use Rattle.std.specs.Prelude.{◌≡◌, ℕ, ◌<◌, length, get_or, map, All, IfOk, None, Some, true};
-ghost use Rattle.std.specs.List.{range_with_len};
-ghost use Rattle.vx_vector.specs.Index.{IsIn, unless, through};
+ghost use Rattle.std.specs.Prelude.{◌≡◌, ℕ, ◌<◌, length, get_or, All, IfOk, None, Some, true};
+ghost use Rattle.vx_vector.specs.Index.{unless, through};
 
 use std::alloc::{AllocError, Global};
 

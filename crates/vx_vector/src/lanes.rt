@@ -1,9 +1,9 @@
-ghost use Rattle.std.specs.Prelude.{◌≡◌, ℕ, ◌<◌, length, get_or, All, IfOk};
+ghost use Rattle.std.specs.Prelude.{◌≡◌, ◌<◌, length, get_or, All, IfOk};
 ghost use Rattle.std.specs.Cow.{cow_value};
 ghost use Rattle.vx_value.specs.Value.{owned, IsLawful};
 ghost use Rattle.vx_vector.specs.Index.{IsIn};
 ghost use Rattle.vx_vector.specs.Column.{FitsKind};
-ghost use Rattle.vx_vector.specs.Lane.{value_of, settled, blank};
+ghost use Rattle.vx_vector.specs.Lane.{value_of, settled};
 
 use crate::gather::{gathered, gathered_or};
 use crate::marks::settle_marks;

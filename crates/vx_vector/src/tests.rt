@@ -1,4 +1,4 @@
-ghost use Rattle.std.specs.Prelude.{◌≡◌, ◌<◌, ◌≤◌, length, All, IfOk, IsTrue};
+ghost use Rattle.std.specs.Prelude.{◌≡◌, ◌<◌, length, All, IfOk, IsTrue};
 ghost use Rattle.vx_vector.specs.Column.{FitsKind};
 
 use crate::{Batch, FINE, Lanes, NULL, Selection, Texts, Vector};

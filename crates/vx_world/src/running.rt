@@ -1,5 +1,5 @@
 //! A world: an arbitrator, its members, and at most one request.
-ghost use Rattle.std.specs.Prelude.{◌≡◌, ◌≤◌, ◌↔◌, ◌==◌, ℕ, None, [], false, not, ◌&&◌, ◌+◌, ◌-◌, length, vec_len, slice_get, IsSomeAnd, IsTrue, IfOk, IfErr, OnOk, OnErr, sum_by, count_by};
+ghost use Rattle.std.specs.Prelude.{◌≡◌, ◌≤◌, ◌↔◌, ◌==◌, ℕ, None, [], false, ◌&&◌, ◌+◌, ◌-◌, length, vec_len, slice_get, IsSomeAnd, IsTrue, IfOk, IfErr, OnOk, OnErr, sum_by, count_by};
 ghost use Rattle.vx_world.specs.Scenes.{IsWorld};
 ghost use Rattle.vx_world.specs.Steps.{Step, Ran, is_lawful};
 

@@ -16,8 +16,6 @@ mod members;
 mod requests;
 mod rows;
 mod sights;
-#[cfg(test)]
-mod tests;
 
 pub use arbiter::Arb;
 pub use entries::{AbortNote, Entry, Look, Looks, NoteCause};

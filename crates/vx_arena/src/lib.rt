@@ -16,8 +16,6 @@ mod blocks;
 mod free;
 mod links;
 mod part;
-#[cfg(test)]
-mod tests;
 mod words;
 
 pub use arena::Arena;

@@ -17,22 +17,12 @@ mod choice;
 mod columns;
 mod compare;
 mod evaluation;
-#[cfg(test)]
-mod fault_tests;
-#[cfg(test)]
-mod fixtures;
 pub mod kernels;
 mod leaf;
 mod logic;
 mod marks;
 mod mask;
-#[cfg(test)]
-mod plan_tests;
 mod rows;
-#[cfg(test)]
-mod samples;
-#[cfg(test)]
-mod tests;
 mod text_rows;
 mod texts;
 mod wanted;

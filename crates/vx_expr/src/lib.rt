@@ -7,8 +7,6 @@ mod expression;
 mod functions;
 mod outcome;
 mod sizes;
-#[cfg(test)]
-mod tests;
 mod typing;
 
 pub use evaluation::eval_row;

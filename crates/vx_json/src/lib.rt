@@ -16,8 +16,6 @@ mod expressions;
 mod fields;
 mod front;
 mod fronts;
-#[cfg(test)]
-mod line_tests;
 mod lines;
 mod lists;
 mod long_texts;
@@ -27,8 +25,6 @@ mod parts;
 mod plans;
 mod printing;
 mod refusals;
-#[cfg(test)]
-mod tests;
 mod way;
 mod words;
 

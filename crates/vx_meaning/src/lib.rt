@@ -16,8 +16,6 @@ mod picking;
 mod rowwise;
 mod sorting;
 mod summing;
-#[cfg(test)]
-mod tests;
 
 pub use answers::{slow_answer, slow_answer_of};
 pub use outcome::SlowAnswer;

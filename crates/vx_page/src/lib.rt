@@ -16,6 +16,3 @@ pub use error::PageError;
 pub use reading::read_page;
 pub use sealed::Sealed;
 pub use writing::write_page;
-
-#[cfg(test)]
-mod tests;

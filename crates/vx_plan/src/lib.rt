@@ -17,8 +17,6 @@ mod kinds;
 mod lists;
 mod node;
 mod refusal;
-#[cfg(test)]
-mod tests;
 mod texts;
 mod types;
 mod widths;

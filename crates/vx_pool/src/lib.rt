@@ -10,8 +10,6 @@ mod paths;
 mod pools;
 mod rounding;
 mod shares;
-#[cfg(test)]
-mod tests;
 
 pub use pools::{Short, Tree};
 pub use rounding::quantum;

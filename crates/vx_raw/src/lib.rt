@@ -10,8 +10,6 @@ mod block;
 mod chunk;
 mod place;
 mod region;
-#[cfg(test)]
-mod tests;
 
 pub use place::Place;
 pub use region::Region;

@@ -13,7 +13,5 @@
 mod frames;
 mod heads;
 mod records;
-#[cfg(test)]
-mod tests;
 
 pub use records::Records;

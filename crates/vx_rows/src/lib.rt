@@ -5,26 +5,16 @@
 //! than 12 bytes stands in the arena, and its slot has its place.
 #![tactic(auto)]
 
-#[cfg(test)]
-mod batch_tests;
 mod batches;
 mod body;
 mod container;
 mod editing;
 mod field;
 mod fields;
-#[cfg(test)]
-mod kind_tests;
 mod layout;
 mod need;
-#[cfg(test)]
-mod need_tests;
 mod nulls;
-#[cfg(test)]
-mod random_tests;
 mod slot;
-#[cfg(test)]
-mod tests;
 mod texts;
 mod write;
 

@@ -10,8 +10,6 @@ mod keys;
 mod order;
 mod row;
 mod sorting;
-#[cfg(test)]
-mod tests;
 mod text;
 mod value;
 

@@ -10,16 +10,12 @@ mod batch;
 mod form;
 mod gather;
 mod index;
-#[cfg(test)]
-mod kernel_tests;
 mod lanes;
 mod marks;
 mod places;
 mod scan;
 mod selection;
 mod store;
-#[cfg(test)]
-mod tests;
 mod texts;
 mod vector;
 

@@ -12,8 +12,6 @@ mod events;
 mod plain;
 mod running;
 mod seats;
-#[cfg(test)]
-mod tests;
 
 pub use events::{ApplyError, Event, Reply};
 pub use plain::PlainMember;

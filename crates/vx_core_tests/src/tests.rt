@@ -1,0 +1,5 @@
+//! Worked cases of pools, the arbitrator and the world.
+
+mod arbiters;
+mod pools;
+mod worlds;

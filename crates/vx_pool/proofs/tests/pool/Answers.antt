@@ -1,5 +1,0 @@
-use Rattle.vx_pool.proofs.QuantumLemmas.{IsUnit-4096}
-use Rattle.vx_pool.proofs.tests.pool.Goals as goal
-
-pub new-requires-clause-unit : goal.new-requires-clause-unit
-new-requires-clause-unit c = IsUnit-4096

@@ -48,6 +48,3 @@ fn gathered(alloc: Global, words: Args) -> Result<Vec<String>, AllocError>
     }
     Ok(all)
 }
-
-#[cfg(test)]
-mod tests;

@@ -10,7 +10,7 @@ use Rattle.atomic_table.specs.Table.{State, keeps, step, Allows, Splits, Joins}
 use Rattle.atomic_table.proofs.Lists.{at_set, at_snoc, set_again, set_here}
 use Rattle.vx_board.specs.declared.view.Terms.{Terms}
 use Rattle.vx_board.specs.declared.view.View.{View}
-use Rattle.vx_board.specs.Seats.{IsWhole, NoneTwice, times, seen_of, spent, drew, noting, undrawn, greater, together, Claims, Posts, Sees}
+use Rattle.vx_board.specs.Seats.{IsWhole, NoneTwice, times, seen_of, spent, knowing, drew, noting, undrawn, greater, together, Claims, Posts, Sees}
 use Rattle.vx_board.specs.BoardRule.{claim_word, peak_word, FitsBoard, KeepsBoard}
 use Rattle.vx_board.specs.Kinds.{Sat, claimed, posted, peeked, looked}
 use Rattle.vx_board.proofs.Places.{at_place, sum_by-changed, part-le-sum_by}
@@ -43,26 +43,29 @@ times-append : (number : ℕ) (xs ys : List ℕ)
     → times number (xs ++ ys) ≡ times number xs + times number ys
 times-append number xs ys = sum_by-append (λ (x : ℕ). mark (x == number)) xs ys
 
--- a view fits where no peak word is lower
+-- a view fits where no word is lower
 risen : (t : Terms) (words ws : List ℕ) (v : View)
+    → ((job : ℕ) → get_or words (2 * job) 0 ≤ get_or ws (2 * job) 0)
     → ((job : ℕ) → get_or words (2 * job + 1) 0 ≤ get_or ws (2 * job + 1) 0)
     → FitsBoard t words v → FitsBoard t ws v
-risen t words ws v up fits = record {
+risen t words ws v firm up fits = record {
   seen = λ job. le_trans (fits.seen job) (up job);
+  taken = λ job has. omega (arith, fits.taken job has, firm job);
   whole = fits.whole;
 }
 
 -- A step of one seat changes words and its own view: what it draws is what the claim words gain, no
--- peak word falls, and the view fits.
+-- word falls, and the view fits.
 moves : (t : Terms) (words ws : List ℕ) (views : List View) (id : ℕ) (v w : View)
     → KeepsBoard t words views → get_elem? views id ≡ some v → length ws ≡ length words
     → ((job : ℕ) → times job w.drawn + get_or words (2 * job) 0 ≡ times job v.drawn + get_or ws (2 * job) 0)
+    → ((job : ℕ) → get_or words (2 * job) 0 ≤ get_or ws (2 * job) 0)
     → ((job : ℕ) → get_or ws (2 * job) 0 ≤ 1)
     → ((job : ℕ) → get_or words (2 * job + 1) 0 ≤ get_or ws (2 * job + 1) 0)
     → ((job : ℕ) → get_or ws (2 * job + 1) 0 ≤ t.total)
     → FitsBoard t ws w
     → KeepsBoard t ws (set views id w)
-moves t words ws views id v w r at long gains once up within fits = record {
+moves t words ws views id v w r at long gains firm once up within fits = record {
   size = long ∙ r.size;
   drawn = λ job.
       omega (arith, sum_by-changed (λ (u : View). times job u.drawn) views id v w at, r.drawn job, gains job);
@@ -70,7 +73,7 @@ moves t words ws views id v w r at long gains once up within fits = record {
   within = within;
   known = λ seat u e.
       ⊎_elim (λ (x : (seat ≡ id) × (w ≡ u)). subst (FitsBoard t ws) x.1 fits)
-      (λ (x : (seat ≢ id) × (get_elem? views seat ≡ some u)). risen t words ws u up (r.known seat u x.1))
+      (λ (x : (seat ≢ id) × (get_elem? views seat ≡ some u)). risen t words ws u firm up (r.known seat u x.1))
       (at_set views id seat w u e);
 }
 
@@ -109,12 +112,19 @@ wins t words views id v job r at low whole free =
     (λ e. omega (arith, at_job other e, was_free other e, once_more other job v.drawn e))
     (λ ne. omega (arith, away (2 * other) (λ e. ne (omega arith)), no_more other job v.drawn ne)))
     (λ other. dite (ℕ_discrete other job)
+    (λ e. omega (arith, at_job other e, was_free other e))
+    (λ ne. omega (arith, away (2 * other) (λ e. ne (omega arith)))))
+    (λ other. dite (ℕ_discrete other job)
     (λ e. omega (arith, at_job other e))
     (λ ne. omega (arith, away (2 * other) (λ e. ne (omega arith)), r.once other)))
     (λ other. omega (arith, away (2 * other + 1) (λ e. omega arith)))
     (λ other. omega (arith, away (2 * other + 1) (λ e. omega arith), r.within other))
     (record {
       seen = λ other. omega (arith, away (2 * other + 1) (λ e. omega arith), (r.known id v at).seen other);
+      taken = λ other has. dite (ℕ_discrete other job) (λ e. omega (arith, at_job other e))
+          (λ ne.
+          let before : 0 < times other v.taken = omega (arith, no_more other job v.taken ne) in
+          omega (arith, away (2 * other) (λ e. ne (omega arith)), (r.known id v at).taken other before));
       whole = inr (record { jobs = whole.jobs; most = whole.most });
     })
 
@@ -124,16 +134,45 @@ claims_won v job other found e free once =
     subst (λ (k : ℕ). Claims v k (found == 0) (drew v job)) e
     (record {
       drawn =
-          subst (λ (b : Bool). MatchBool b (drew v job ≡ drew v job) (drew v job ≡ v))
+          subst (λ (b : Bool). MatchBool b (drew v job ≡ drew v job) (drew v job ≡ knowing v job))
           (sym (eq-eqb found 0 free)) refl;
       once = once;
     })
 
-claims_lost : (v : View) (other found : ℕ) → found ≢ 0 → NoneTwice v.drawn → Claims v other (found == 0) v
-claims_lost v other found taken once = record {
-  drawn = subst (λ (b : Bool). MatchBool b (v ≡ drew v other) (v ≡ v)) (sym (ne_eqb found 0 taken)) refl;
-  once = once;
-}
+claims_lost : (v : View) (job other found : ℕ) → job ≡ other → found ≢ 0 → NoneTwice v.drawn
+    → Claims v other (found == 0) (knowing v job)
+claims_lost v job other found e taken once =
+    subst (λ (k : ℕ). Claims v k (found == 0) (knowing v job)) e
+    (record {
+      drawn =
+          subst (λ (b : Bool). MatchBool b (knowing v job ≡ drew v job) (knowing v job ≡ knowing v job))
+          (sym (ne_eqb found 0 taken)) refl;
+      once = once;
+    })
+
+-- a claim that found 1
+loses : (t : Terms) (words : List ℕ) (views : List View) (id : ℕ) (v : View) (job : ℕ)
+    → KeepsBoard t words views → get_elem? views id ≡ some v → IsWhole t v → get_or words (2 * job) 0 ≡ 1
+    → KeepsBoard t (set words (2 * job) 1) (set views id (knowing v job))
+loses t words views id v job r at whole one =
+    let w : View = knowing v job in
+    let same : set words (2 * job) 1 ≡ words =
+    ap (λ (n : ℕ). set words (2 * job) n) (sym one) ∙ set-get_or words (2 * job) 0 in
+    let fits : FitsBoard t words w =
+    record {
+      seen = (r.known id v at).seen;
+      taken = λ other has. dite (ℕ_discrete other job)
+          (λ e.
+          let here : get_or words (2 * other) 0 ≡ 1 = ap (λ (k : ℕ). get_or words (2 * k) 0) e ∙ one in
+          omega arith)
+          (λ ne.
+          (r.known id v at).taken other
+          (let before : 0 < times other v.taken = omega (arith, no_more other job v.taken ne) in before));
+      whole = inr (record { jobs = whole.jobs; most = whole.most });
+    } in
+    subst (λ (ws : List ℕ). KeepsBoard t ws (set views id w)) (sym same)
+    (moves t words words views id v w r at refl (λ other. refl) (λ other. le_refl (get_or words (2 * other) 0)) r.once
+    (λ other. le_refl (get_or words (2 * other + 1) 0)) r.within fits)
 
 claims_here : (t : Terms) (slots id : ℕ) (m : Sat) (job : ℕ) → job < t.jobs → IsWhole t m.0
     → Allows (Law t) slots id m (2 * job) (λ _. 1) (claimed (step slots (2 * job) 1 0 none) m)
@@ -148,14 +187,12 @@ claims_here t slots id m job low whole s r homes at fits =
     (w, keeps, tt, now, (refl, λ other e. claims_won m.0 job other _ (omega arith) free once)))
     (λ taken.
     let one : get_or s.words (2 * job) 0 ≡ 1 = omega (arith, r.once job) in
-    let same : set s.words (2 * job) 1 ≡ s.words =
-    ap (λ (n : ℕ). set s.words (2 * job) n) (sym one) ∙ set-get_or s.words (2 * job) 0 in
     let once = drawn_once t s.words s.views id m.0 r at in (
-      m.0,
+      knowing m.0 job,
       keeps,
       tt,
-      stays t s.words (set s.words (2 * job) 1) s.views id m.0 r at same,
-      (refl, λ other e. claims_lost m.0 other _ taken once),
+      loses t s.words s.views id m.0 job r at whole one,
+      (refl, λ other e. claims_lost m.0 job other _ (omega arith) taken once),
     ))
 
 -- `claim`
@@ -185,6 +222,7 @@ notes t words views id v job now r at low whole up within =
     ∙ get_or-set_same v.seen job now 0 (omega (arith, whole.jobs)) in
     moves t words ws views id v (noting v job now) r at (length-set words i now)
     (λ other. omega (arith, away (2 * other) (λ e. omega arith)))
+    (λ other. omega (arith, away (2 * other) (λ e. omega arith)))
     (λ other. omega (arith, away (2 * other) (λ e. omega arith), r.once other))
     (λ other. dite (ℕ_discrete other job)
     (λ e. omega (arith, at_job other e, was other e))
@@ -197,6 +235,7 @@ notes t words views id v job now r at low whole up within =
           (λ e. omega (arith, at_job other e, seen_here other e))
           (λ ne.
           omega (arith, away (2 * other + 1) (λ e. ne (omega arith)), get_or-set_other v.seen job other now 0 ne, (r.known id v at).seen other));
+      taken = λ other has. omega (arith, away (2 * other) (λ e. omega arith), (r.known id v at).taken other has);
       whole = inr (record { jobs = length-set v.seen job now ∙ whole.jobs; most = whole.most });
     })
 
@@ -291,6 +330,7 @@ splits t id v whole s r at =
     fits : FitsBoard t s.words (undrawn v)
     fits = record {
       seen = (r.known id v at).seen;
+      taken = (r.known id v at).taken;
       whole = inr (record { jobs = whole.jobs; most = whole.most });
     }
 
@@ -354,11 +394,16 @@ joins t id v other w whole whole' s r at apart there = record {
         (at_set s.views id other both w there)
 
     gone : FitsBoard t s.words spent
-    gone = record { seen = λ job. omega arith; whole = inl refl }
+    gone = record { seen = λ job. omega arith; taken = λ job has. absurd (omega arith); whole = inl refl }
 
     fits : FitsBoard t s.words both
     fits = record {
       seen = λ job.
           omega (arith, greater_at v.seen w.seen job, (r.known id v at).seen job, (r.known other w theirs).seen job);
+      taken = λ job has. dite (ℕ_discrete (times job v.taken) 0)
+          (λ e.
+          (r.known other w theirs).taken job
+          (let some_there : 0 < times job w.taken = omega (arith, times-append job v.taken w.taken) in some_there))
+          (λ ne. (r.known id v at).taken job (let some_here : 0 < times job v.taken = omega arith in some_here));
       whole = inr (together_whole t v w whole whole');
     }

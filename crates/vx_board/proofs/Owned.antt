@@ -29,7 +29,8 @@ pub claims_whole : (t : Terms) (v : View) (job : ℕ) (won : Bool) (w : View) �
     → IsWhole t w
 claims_whole t v job true w told whole =
     subst (IsWhole t) (sym told.drawn) (record { jobs = whole.jobs; most = whole.most })
-claims_whole t v job false w told whole = subst (IsWhole t) (sym told.drawn) whole
+claims_whole t v job false w told whole =
+    subst (IsWhole t) (sym told.drawn) (record { jobs = whole.jobs; most = whole.most })
 
 pub sees_whole : (t : Terms) (v : View) (job peak : ℕ) (w : View) → Sees v job peak w → IsWhole t v → IsWhole t w
 sees_whole t v job peak w told whole =

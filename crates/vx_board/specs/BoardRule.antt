@@ -1,5 +1,5 @@
 -- The rule of a board: what holds of its words and of the views of all its seats, between any two steps.
-use Rattle.std.specs.Prelude.{◌≡◌, ◌⊎◌, ℕ, ◌+◌, ◌*◌, ◌≤◌, List, length, sum_by, slice_index}
+use Rattle.std.specs.Prelude.{◌≡◌, ◌⊎◌, ℕ, ◌+◌, ◌*◌, ◌<◌, ◌≤◌, List, length, sum_by, slice_index}
 use mathlib.Core.Option.{some}
 use lib.ListN.{get_elem?}
 use Rattle.vx_board.specs.declared.view.Terms.{Terms}
@@ -18,10 +18,12 @@ peak_word job = 2 * job + 1
 abbrev pub draws : ℕ → List View → ℕ
 draws job views = sum_by (λ view. times job view.drawn) views
 
--- A view has seen no more of a job than its word. It is that of a seat which was joined to another, or
--- it has a number for each job and the board's total.
+-- A view has seen no more of a job than its word, and knows a job to be claimed only where its claim word
+-- is 1. It is that of a seat which was joined to another, or it has a number for each job and the
+-- board's total.
 pub record FitsBoard (terms : Terms) (words : List ℕ) (view : View) : Type 0 where
   pub seen : (job : ℕ) → seen_of view job ≤ slice_index words (peak_word job)
+  pub taken : (job : ℕ) → 0 < times job view.taken → 0 < slice_index words (claim_word job)
   pub whole : (view ≡ spent) ⊎ IsWhole terms view
 
 -- A job whose claim word is 1 was drawn once, over all seats, and one whose claim word is 0 was not. No

@@ -43,6 +43,7 @@ seen_of view job = slice_index view.seen job
 abbrev pub first_view : Terms → View
 first_view terms = record {
   drawn = [];
+  taken = [];
   seen = replicate terms.jobs 0;
   most = terms.total;
 }
@@ -51,13 +52,19 @@ first_view terms = record {
 abbrev pub spent : View
 spent = record {
   drawn = [];
+  taken = [];
   seen = [];
   most = 0;
 }
 
+-- the view once the job is known to be claimed
+abbrev pub knowing : View → ℕ → View
+knowing view job = record view { taken = view.taken ++ job ∷ [] }
+
 -- the view after the job was drawn
 abbrev pub drew : View → ℕ → View
-drew view job = record view { drawn = view.drawn ++ job ∷ [] }
+drew view job =
+    record view { drawn = view.drawn ++ job ∷ []; taken = view.taken ++ job ∷ [] }
 
 -- the view after this peak of the job was seen
 abbrev pub noting : View → ℕ → ℕ → View
@@ -77,13 +84,15 @@ greater (x ∷ xs) (y ∷ ys) = max x y ∷ greater xs ys
 abbrev pub together : View → View → View
 together view other = record {
   drawn = view.drawn ++ other.drawn;
+  taken = view.taken ++ other.taken;
   seen = greater view.seen other.seen;
   most = view.most;
 }
 
--- A claim that was won has drawn the job, and another has changed nothing. No seat draws a job twice.
+-- A claim that was won has drawn the job. One that was lost has drawn nothing, and found that the job is
+-- claimed. No seat draws a job twice.
 pub record Claims (before : View) (job : ℕ) (won : Bool) (after : View) : Type 0 where
-  pub drawn : MatchBool won (after ≡ drew before job) (after ≡ before)
+  pub drawn : MatchBool won (after ≡ drew before job) (after ≡ knowing before job)
   pub once : NoneTwice after.drawn
 
 -- this peak of the job was seen: no less than what was seen before, and at most the total

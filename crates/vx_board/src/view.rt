@@ -12,6 +12,8 @@ pub struct Terms {
 pub struct View {
     /// The jobs that the seat has drawn.
     pub drawn: LinkedList<u32>,
+    /// The jobs that the seat knows to be claimed, by whichever seat.
+    pub taken: LinkedList<u32>,
     /// For each job the greatest peak that the seat has posted or seen.
     pub seen: LinkedList<u64>,
     /// The board's total.

@@ -1,0 +1,6 @@
+pub mod Seats
+pub mod BoardRule
+pub mod Kinds
+pub mod BoardFields
+pub mod SeatFields
+pub mod TestBoards

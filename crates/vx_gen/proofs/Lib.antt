@@ -1,0 +1,2 @@
+pub mod CheckedLaw
+pub mod DrawLemmas

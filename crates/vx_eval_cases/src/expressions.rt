@@ -117,21 +117,27 @@ fn call(alloc: Global, func: Func, count: usize, stack: &mut Vec<Fit>) -> Result
 }
 
 fn one(alloc: Global, func: Func, a: Fit) -> Result<Fit> {
-    let args = Items::from_vec(vec![in alloc; a.expr]?);
+    let mut args = Items::new(alloc);
+    args.push(a.expr)?;
     Ok(Fit {
         expr: Expr::Call { func, args },
     })
 }
 
 fn two(alloc: Global, func: Func, a: Fit, b: Fit) -> Result<Fit> {
-    let args = Items::from_vec(vec![in alloc; a.expr, b.expr]?);
+    let mut args = Items::new(alloc);
+    args.push(a.expr)?;
+    args.push(b.expr)?;
     Ok(Fit {
         expr: Expr::Call { func, args },
     })
 }
 
 fn three(alloc: Global, func: Func, a: Fit, b: Fit, c: Fit) -> Result<Fit> {
-    let args = Items::from_vec(vec![in alloc; a.expr, b.expr, c.expr]?);
+    let mut args = Items::new(alloc);
+    args.push(a.expr)?;
+    args.push(b.expr)?;
+    args.push(c.expr)?;
     Ok(Fit {
         expr: Expr::Call { func, args },
     })

@@ -64,19 +64,23 @@ fn over_encodings(alloc: Global, kinds: &str, words: &str) -> Result<(u32, u32)>
         all.push(kind_of(alloc, word)?)?;
     }
     let fit = expression(alloc, words)?;
-    let codes: u32 = match all.len() {
-        1 => 4,
-        3 => 64,
-        _ => 16,
-    };
     let (mut count, mut differ) = (0u32, 0u32);
-    for code in 0..codes {
+    for code in 0..codes_of(all.len()) {
         count = count.saturating_add(1);
         if !is_same_in(alloc, &fit.expr, all.as_slice(), code)? {
             differ = differ.saturating_add(1);
         }
     }
     Ok((count, differ))
+}
+
+/// How many codes so many columns have.
+fn codes_of(columns: usize) -> u32 {
+    match columns {
+        1 => 4,
+        3 => 64,
+        _ => 16,
+    }
 }
 
 /// Whether a batch gives the same as its rows alone. Two bits of the code are a column's encoding; of four columns

@@ -1,4 +1,6 @@
 //! What an expression gives over a batch of three rows, as words.
+ghost use Rattle.std.specs.Prelude.{◌≡◌, ◌<◌, length, IfSome};
+
 use crate::columns::{column_of, word_of};
 use crate::comparing::{are_even, evaluated};
 use crate::expressions::expression;
@@ -38,10 +40,12 @@ pub fn said(alloc: Global, line: &str) -> Result<String> {
 }
 
 /// A word for each selected row, and one more where a row that isn't selected has a fault.
-fn told(alloc: Global, values: &Vector, faults: &FaultMask, places: &[u32]) -> Result<String> {
+fn told(alloc: Global, values: &Vector, faults: &FaultMask, places: &[u32]) -> Result<String>
+    requires { length values.now.values ≡ length places.now }
+{
     let mut said = String::new(alloc);
     for place in 0..ROWS {
-        let Some(at) = places.iter().position(|it| *it == place) else {
+        let Some(at) = place_in(places, place) else {
             if faults.get(place).is_some() {
                 said.push_str(" a fault elsewhere")?;
             }
@@ -54,8 +58,20 @@ fn told(alloc: Global, values: &Vector, faults: &FaultMask, places: &[u32]) -> R
             Some(Fault::Overflow) => said.push_str("!overflow")?,
             Some(Fault::DivideByZero) => said.push_str("!divide_by_zero")?,
             Some(Fault::TooLong) => said.push_str("!too_long")?,
-            None => said.push_str(word_of(alloc, values.get(at as u32))?.as_str())?,
+            None => said.push_str(word_of(alloc, values.get(at))?.as_str())?,
         }
     }
     Ok(said)
+}
+
+/// Where a place stands among the selected ones.
+fn place_in(places: &[u32], place: u32) -> Option<u32>
+    ensures { IfSome result (λ at. at < length places.now) }
+{
+    for at in 0..places.len() {
+        if places[at] == place {
+            return u32::try_from(at).ok();
+        }
+    }
+    None
 }

@@ -135,13 +135,23 @@ fn join_copy(
 ) -> Result<Body, AllocError>
     ensures { IfOk result (λ copy. copy ≡ Body.Join kind left_keys.now right_keys.now left right) }
 {
+    let left_keys = keys_copy(alloc, left_keys)?;
+    let right_keys = keys_copy(alloc, right_keys)?;
+    let left = Boxed::new(alloc, left)?;
+    let right = Boxed::new(alloc, right)?;
     Ok(Body::Join {
         kind,
-        left_keys: Items::from_slice(alloc, left_keys.as_slice())?,
-        right_keys: Items::from_slice(alloc, right_keys.as_slice())?,
-        left: Boxed::new(alloc, left)?,
-        right: Boxed::new(alloc, right)?,
+        left_keys,
+        right_keys,
+        left,
+        right,
     })
+}
+
+fn keys_copy(alloc: Global, keys: &Items<u32>) -> Result<Items<u32>, AllocError>
+    ensures { IfOk result (λ copy. copy ≡ keys.now) }
+{
+    Items::from_slice(alloc, keys.as_slice())
 }
 
 fn top_n_copy(alloc: Global, count: u64, keys: &[SortKey], source: Node) -> Result<Body, AllocError>

@@ -36,11 +36,22 @@ fn text_of(alloc: Global, words: &str) -> Result<Txt, AllocError> {
 fn letter(value: ValueRef<'_>) -> u8 {
     match value {
         ValueRef::Null => b'n',
-        ValueRef::Bool(true) => b't',
-        ValueRef::Bool(false) => b'f',
-        ValueRef::Int(n) => u8::try_from(n).unwrap_or(b'?'),
-        ValueRef::Text(text) => text.first().copied().unwrap_or(b'e'),
+        ValueRef::Bool(b) => letter_of_bool(b),
+        ValueRef::Int(n) => letter_of_int(n),
+        ValueRef::Text(text) => letter_of_text(text),
     }
+}
+
+fn letter_of_bool(b: bool) -> u8 {
+    if b { b't' } else { b'f' }
+}
+
+fn letter_of_int(n: i64) -> u8 {
+    u8::try_from(n).unwrap_or(b'?')
+}
+
+fn letter_of_text(text: &[u8]) -> u8 {
+    text.first().copied().unwrap_or(b'e')
 }
 
 /// A column that stores each value, spelled by letters.
@@ -144,8 +155,15 @@ fn tell_rows(
         return Err(AllocError);
     }
     tell(alloc, &vector.select(alloc, rows)?, told)?;
+    tell(alloc, &vector_at(alloc, vector, rows)?, told)
+}
+
+/// The rows at these places, by `lanes_at`.
+fn vector_at(alloc: Global, vector: &Vector, rows: &Selection) -> Result<Vector, AllocError>
+    requires { All (λ p. p < length vector.now.values) rows.now }
+{
     let lanes = Lanes::owned(alloc, vector.lanes_at(alloc, rows)?)?;
-    tell(alloc, &Vector::of_lanes(lanes), told)
+    Ok(Vector::of_lanes(lanes))
 }
 
 /// The rows at 0 and 2, all three rows, and no row.

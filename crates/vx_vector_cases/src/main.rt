@@ -7,9 +7,9 @@ mod letters;
 
 use anyhow::Result;
 use letters::{copied, flat, lengths, selected, texts, wrap, wraps};
-use std::alloc::Global;
+use std::alloc::{AllocError, Global};
 use vx_value::Kind;
-use vx_vector::{FINE, NULL, Texts};
+use vx_vector::{FINE, NULL, Texts, Vector};
 
 fn main(rt: HostRuntime) -> Result<()> {
     let alloc = rt.alloc();
@@ -47,10 +47,14 @@ fn main(rt: HostRuntime) -> Result<()> {
 fn long_texts(alloc: Global) -> Result<String> {
     let stored = texts(alloc, &[0, 12, 13, 65_535])?;
     let counted = lengths(alloc, &stored)?;
-    let wrapped = wrap(alloc, stored, &[3, 2, 1, 0], &[false, true, false, false])?;
-    let turned = lengths(alloc, &wrapped.flatten(alloc)?)?;
-    let (counted, turned) = (counted.as_slice(), turned.as_slice());
+    let turned = turned_lengths(alloc, stored)?;
     Ok(format!(in alloc; "lengths {counted:?} {turned:?}\n")?)
+}
+
+/// The lengths of a vector's last text first, without the third.
+fn turned_lengths(alloc: Global, stored: Vector) -> Result<Vec<usize>, AllocError> {
+    let wrapped = wrap(alloc, stored, &[3, 2, 1, 0], &[false, true, false, false])?;
+    lengths(alloc, &wrapped.flatten(alloc)?)
 }
 
 /// A null and a text of two parts, one behind the other.

@@ -107,16 +107,20 @@ fn agrees(alloc: Global, case: &Case, left: &Left) -> Result<bool, AllocError>
 
 /// Whether two outputs have the same lines, the first two in their places.
 fn is_shuffled(alloc: Global, wanted: &[u8], left: &[u8]) -> Result<bool, AllocError> {
-    let wanted = String::from_utf8_lossy(alloc, wanted)?;
-    let left = String::from_utf8_lossy(alloc, left)?;
-    let (wanted_head, wanted_count, wanted_rows) = parts(wanted.as_str());
-    let (left_head, left_count, left_rows) = parts(left.as_str());
+    let wanted_text = String::from_utf8_lossy(alloc, wanted)?;
+    let left_text = String::from_utf8_lossy(alloc, left)?;
+    are_shuffled(alloc, wanted_text.as_str(), left_text.as_str())
+}
+
+fn are_shuffled(alloc: Global, wanted: &str, left: &str) -> Result<bool, AllocError> {
+    let (wanted_head, wanted_count, wanted_rows) = parts(wanted);
+    let (left_head, left_count, left_rows) = parts(left);
     if wanted_head != left_head || wanted_count != left_count {
         return Ok(false);
     }
-    let wanted_rows = sorted(alloc, wanted_rows)?;
-    let left_rows = sorted(alloc, left_rows)?;
-    Ok(wanted_rows == left_rows)
+    let wanted_lines = sorted(alloc, wanted_rows)?;
+    let left_lines = sorted(alloc, left_rows)?;
+    Ok(wanted_lines == left_lines)
 }
 
 /// The first line, the second one, and what stands behind them.

@@ -9,14 +9,18 @@ use std::thread::Threads;
 #[test]
 fn words_name_one_file(rt: HostRuntime) -> Result<(), Fail> {
     let alloc = rt.alloc();
-    let cases: [(&[&str], &str); 5] = [
+    let cases: [(&[&str], &str); 9] = [
         (&[], "2||vxrun: bad words\n"),
         (&["vxrun"], "2||vxrun: bad words\n"),
         (&["vxrun", "a", "b"], "2||vxrun: bad words\n"),
         (&["vxrun", "-a"], "2||vxrun: bad words\n"),
+        (&["vxrun", "--log", "a"], "2||vxrun: bad words\n"),
+        (&["vxrun", "--batch", "255", "a"], "2||vxrun: bad words\n"),
+        (&["vxrun", "a"], "6||vxrun: a: cannot be read\n"),
+        (&["vxrun", "--", "-a"], "6||vxrun: -a: cannot be read\n"),
         (
-            &["vxrun", "none.json"],
-            "6||vxrun: none.json: cannot be read\n",
+            &["vxrun", "--workers=16", "p.json", "--batch", "256"],
+            "3||vxrun: p.json: P1\n",
         ),
     ];
     for (words, wanted) in cases {

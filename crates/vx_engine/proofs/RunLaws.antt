@@ -1,5 +1,8 @@
 -- What a run over a named file did, put together from what its parts did.
-use Rattle.std.proofs.Common.{◌≡◌, ℕ, List, Option, Some, Result, Ok, Err, OnOk, IfOk, IfErr, refl, subst, inr, rules}
+use Rattle.std.proofs.Common.{◌≡◌, ℕ, Bool, true, false, List, [], Option, Some, None, IfSome, option_and_then, if◌then◌else◌, Result, Ok, Err, OnOk, IfOk, IfErr, refl, subst, inr, rules}
+use Rattle.std.specs.List.{slice_index_or}
+use Rattle.vx_words.specs.Settings.{Settings}
+use Rattle.vx_engine.specs.Words.{AsksForUnbuilt, asks_for_unbuilt, file_of}
 use Rattle.vx_base.specs.Told.{gained, GainsSome}
 use Rattle.vx_host.specs.Views.{SinkView, FilesView}
 use Rattle.vx_plan.specs.declared.node.Plan.{Plan}
@@ -65,3 +68,16 @@ IsRun-from_Ran Said named files files' out out' err err' name (Err NoMemory) sta
 pub OnOk-then : {A E P Q : Type 0} (r : Result A E) → (P → Q) → OnOk r P → OnOk r Q
 OnOk-then (Ok a) f p = f p
 OnOk-then (Err e) f p = tt
+
+-- no file is run only where the settings ask for what isn't built, or there are none, and there always
+pub unnamed_only : (asked : Option Settings) → option_and_then file_of asked ≡ None → IfSome asked AsksForUnbuilt
+unnamed_only None none = tt
+unnamed_only (Some s) none = of_test (asks_for_unbuilt s) none
+  where
+    of_test : (b : Bool) → (if b then None else Some (slice_index_or s.words 0 [])) ≡ None → b ≡ true
+    of_test true none = refl
+    of_test false none = cc
+
+pub unnamed : (asked : Option Settings) → IfSome asked AsksForUnbuilt → option_and_then file_of asked ≡ None
+unnamed None asks = refl
+unnamed (Some s) asks = rw asks refl

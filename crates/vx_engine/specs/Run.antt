@@ -1,5 +1,5 @@
 -- What a run of the program did to its host: each status with its cause and its line on err.
-use Rattle.std.specs.Prelude.{◌≡◌, ◌≢◌, ◌⊎◌, ◌↔◌, ℕ, ◌<◌, ◌≤◌, ◌==◌, List, [], ◌∷◌, ◌++◌, length, codes, Bool, true, ⊤, Option, Some, None, IfSome, IsSomeAnd, option_map, option_and_then, Result, Ok, Err}
+use Rattle.std.specs.Prelude.{◌≡◌, ◌≢◌, ◌⊎◌, ℕ, ◌<◌, ◌≤◌, ◌==◌, List, [], ◌∷◌, ◌++◌, length, codes, Bool, true, ⊤, Option, Some, None, IfSome, IsSomeAnd, option_map, option_and_then, Result, Ok, Err}
 use Rattle.std.specs.List.{list_any}
 use Rattle.vx_base.specs.Causes.{Rose}
 use Rattle.vx_base.specs.Told.{gained, GainsSome}
@@ -114,7 +114,8 @@ is_status status = list_any (λ known. status == known) (0 ∷ 1 ∷ 2 ∷ 3 ∷
 -- What a run did, by its status. The top call has the same statements as clauses of these names.
 pub record IsRun (Said : SinkView → SinkView → List ℕ → Type 0) (named : Option (List ℕ)) (files files' : FilesView) (out out' err err' : SinkView) (status : ℕ) : Type 0 where
   pub statuses : is_status status ≡ true
-  pub bad_words : (status ≡ 2) ↔ (named ≡ None)
+  pub bad_words : status ≡ 2 → named ≡ None
+  pub bad_words_always : named ≡ None → status ≢ 5 → status ≡ 2
   pub bad_words_said : status ≡ 2 → Said err err' bad_words_line
   pub not_read : status ≡ 6 → IsSomeAnd named (SaysUnread Said files files' err err')
   pub unreadable_only : status ≡ 6 → files.unfailing ≡ true → IfSome (told_file files named) IsUnreadable

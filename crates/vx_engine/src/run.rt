@@ -10,11 +10,12 @@ ghost use Rattle.vx_engine.specs.Words.{name_of};
 
 use crate::load::load;
 use crate::print::{Printed, print};
-use crate::stop::{BAD_WORDS, DONE, FAULTED, Stop};
+use crate::stop::{BAD_WORDS, DONE, FAULTED, NO_MEMORY, Stop};
 use crate::words::file_name;
 use std::alloc::Global;
 use vx_host::{Host, SinkError, To, give_all};
 use vx_meaning::slow_answer_of;
+use vx_words::WordsError;
 
 /// How a run ended: its status, and how the write of its line to err went, if there was one.
 #[derive(Drop)]
@@ -39,16 +40,23 @@ pub(crate) fn run_words<H: Host>(alloc: Global, words: &[String], host: &mut H) 
         (H.sink host.old Output) (H.sink host.new Output)
         (H.sink host.old Errors) (H.sink host.new Errors) result.status) }
 {
-    match file_name(words) {
-        None => {
+    match file_name(alloc, words) {
+        Err(WordsError::Refused) => {
             let said = say("vxrun: bad words\n", host);
             Finished {
                 status: BAD_WORDS,
                 said,
             }
         }
-        Some(name) => {
-            let ended = run_file(alloc, name, host);
+        Err(WordsError::NoMemory) => {
+            let said = say("vxrun: out of memory\n", host);
+            Finished {
+                status: NO_MEMORY,
+                said,
+            }
+        }
+        Ok(name) => {
+            let ended = run_file(alloc, name.as_str(), host);
             let status = status_of_run(&ended.outcome);
             Finished {
                 status,

@@ -1,11 +1,11 @@
 //! The top call: all that the program does.
 
-ghost use Rattle.std.specs.Prelude.{◌≡◌, ◌≢◌, ◌≤◌, ◌⊎◌, ◌↔◌, true, None, IfSome, IsSomeAnd};
+ghost use Rattle.std.specs.Prelude.{◌≡◌, ◌≢◌, ◌≤◌, ◌⊎◌, true, IfSome, IsSomeAnd};
 ghost use Rattle.vx_base.specs.Causes.{Rose};
 ghost use Rattle.vx_host.specs.Host.{KeepsFiles};
 ghost use Rattle.vx_host.specs.declared.host.To.TheVariants.{Output, Errors};
 ghost use Rattle.vx_engine.specs.Run.{is_status, told_file, IsUnreadable, IsRefused, Says, SaysUnread, SaysRefusal, PrintsRows, PrintsFault, PrintsFront, GoesOn, bad_words_line, no_memory_line};
-ghost use Rattle.vx_engine.specs.Words.{name_of};
+ghost use Rattle.vx_engine.specs.Words.{AsksForUnbuilt, asked, name_of};
 
 use crate::run::run_words;
 use crate::stop::{BAD_WORDS, DONE, FAULTED, NO_MEMORY, NOT_READ, NOT_WRITTEN, REFUSED};
@@ -28,8 +28,10 @@ pub fn vxrun<R: Threads + Wait + Sync, H: Host, G: Gate + Sync>(
 ) -> u8
     ensures statuses { is_status result ≡ true }
 
-    // Words that aren't lawful are refused, and no others.
-    ensures bad_words { (result ≡ BAD_WORDS) ↔ (name_of words.now ≡ None) }
+    // Words are bad only where they have no settings or ask for what isn't built yet, and there always.
+    ensures bad_words { result ≡ BAD_WORDS → IfSome (asked words.now) AsksForUnbuilt }
+    ensures bad_words_always { IfSome (asked words.now) AsksForUnbuilt
+        → result ≢ NO_MEMORY → result ≡ BAD_WORDS }
     ensures bad_words_said { result ≡ BAD_WORDS
         → Says (H.sink host.old Errors) (H.sink host.new Errors) bad_words_line }
 

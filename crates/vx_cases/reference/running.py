@@ -6,6 +6,7 @@ from meaning import Evaluation, Open
 from reading import Refused, plan_of
 
 FILE_LIMIT = 16_777_216
+DEFAULTS = {"--capacity": 268_435_456, "--max": 268_435_456, "--unit": 65_536, "--batch": 256, "--drivers": 1, "--mode": "run"}
 
 
 @dataclass
@@ -73,9 +74,36 @@ def run_file(name: str, host: Host) -> tuple:
     return (status if host.out.give_all(f"== 0 {name}\n{text}".encode()) else 4), is_settled
 
 
+def file_named(words: list):
+    """The file that lawful words name. Every option but `--workers` must have its default, since no other is built."""
+    options, names, rest = {}, [], list(words[1:])
+    while rest:
+        word = rest.pop(0)
+        if word == "--":
+            names, rest = names + rest, []
+        elif not word.startswith("-") or word == "-":
+            names.append(word)
+        else:
+            option, is_joined, value = word.partition("=")
+            value = value if is_joined else rest.pop(0) if rest else "-"
+            if option in options or option not in (*DEFAULTS, "--workers") or (value.startswith("-") and not is_joined):
+                return None
+            options[option] = value
+    for option, value in options.items():
+        if option == "--mode":
+            is_lawful = value == "run"
+        else:
+            is_number = value.isascii() and value.isdigit() and len(value) <= 10
+            is_lawful = is_number and (1 <= int(value) <= 16 if option == "--workers" else int(value) == DEFAULTS[option])
+        if not is_lawful:
+            return None
+    return names[0] if len(names) == 1 else None
+
+
 def run(words: list, host: Host) -> tuple:
     """The status of a run, and whether the order of the rows on out is settled."""
-    if len(words) != 2 or words[1].startswith("-"):
+    name = file_named(words)
+    if name is None:
         host.err.give_all(b"vxrun: bad words\n")
         return 2, True
-    return run_file(words[1], host)
+    return run_file(name, host)

@@ -1,8 +1,7 @@
 //! The case files of a folder.
 
-use std::fs;
-use std::io;
 use std::rt::Files;
+use std::{fs, io};
 
 /// The paths of the files of a folder whose names end with `.cases`, in the order of texts.
 pub fn case_files<R: Files + AllocGlobal + Clone + Drop>(

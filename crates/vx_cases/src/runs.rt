@@ -41,8 +41,11 @@ pub fn run_text<R: Threads + Wait + Sync + Print + AllocGlobal>(
             current = Some(Case::new(rt.alloc(), rest)?);
         } else if word != "" && word != "#" {
             let number = place.saturating_add(1);
-            let mut case = current.take().context(format_args!("{path}: {number}: no case yet"))?;
-            case.add(rt.alloc(), word, rest).context(format_args!("{path}: {number}"))?;
+            let mut case = current
+                .take()
+                .context(format_args!("{path}: {number}: no case yet"))?;
+            case.add(rt.alloc(), word, rest)
+                .context(format_args!("{path}: {number}"))?;
             current = Some(case);
         }
     }

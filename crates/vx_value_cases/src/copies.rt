@@ -3,6 +3,7 @@ use crate::rows::worked_row;
 use anyhow::Result;
 use std::alloc::Global;
 use vx_json::{Line, plan_of, push_row, row_line};
+use vx_plan::Plan;
 use vx_value::{Row, Txt, Value, is_same};
 
 /// Whether each value of a copy is that of the row.
@@ -18,19 +19,30 @@ pub fn of_rows(alloc: Global) -> Result<String> {
     Ok(text)
 }
 
-/// A plan with each kind of node, and expressions with each kind of literal.
-const WHOLE: &[u8] =
-    br#"{"plan":{"node":"topn","id":9,"count":3,"keys":[[0,"desc","first"]],"source":{"node":"order","id":8,"keys":[[0,"asc","last"]],"source":{"node":"limit","id":7,"offset":1,"count":2,"source":{"node":"exchange","id":6,"kind":"gather","keys":[],"source":{"node":"aggregation","id":5,"step":"final","keys":[0],"aggregates":[["count",1],["max",2]],"source":{"node":"exchange","id":4,"kind":"hash","keys":[0],"source":{"node":"aggregation","id":3,"step":"partial","keys":[0],"aggregates":[["count"],["max",1]],"source":{"node":"project","id":2,"exprs":[["if",["lit",true],["col",0],["null","int"]],["concat",["col",1],["lit","x"]]],"source":{"node":"filter","id":1,"predicate":["gt",["col",0],["lit",-1]],"source":{"node":"values","id":0,"kinds":["int","text"],"rows":[[1,"a"],[null,null]],"parallel":true}}}}}}}}}}}"#;
+/// A plan as its derived form shows it.
+fn form(alloc: Global, plan: &Plan) -> Result<String> {
+    Ok(format!(in alloc; "{plan:?}")?)
+}
+
+/// The plan of a file's bytes.
+fn read(alloc: Global, bytes: &[u8]) -> Result<Plan> {
+    Ok(plan_of(alloc, bytes)?)
+}
 
 /// Whether the copy of a plan reads as the plan.
-pub fn of_plans(alloc: Global) -> Result<String> {
-    let plan = plan_of(alloc, WHOLE)?;
-    let copy = plan.copy(alloc)?;
-    let own = format!(in alloc; "{plan:?}")?;
-    let other = format!(in alloc; "{copy:?}")?;
+pub fn of_plans(alloc: Global, bytes: &[u8]) -> Result<String> {
+    let plan = read(alloc, bytes)?;
+    let own = form(alloc, &plan)?;
+    let other = copied_form(alloc, &plan)?;
     let is_same = own.as_str() == other.as_str();
     let has_all = own.len() > 500;
     Ok(format!(in alloc; "plan copied {is_same} {has_all}\n")?)
+}
+
+/// The form of a plan's copy.
+fn copied_form(alloc: Global, plan: &Plan) -> Result<String> {
+    let copy = plan.copy(alloc)?;
+    form(alloc, &copy)
 }
 
 /// A row as a line, by each call that prints one.

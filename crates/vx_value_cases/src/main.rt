@@ -9,6 +9,7 @@ mod rows;
 use anyhow::Result;
 use rows::worked_row;
 use std::alloc::Global;
+use std::fs;
 use vx_value::{hash_key, hash_value, key_bytes};
 
 fn main(rt: HostRuntime) -> Result<()> {
@@ -19,7 +20,8 @@ fn main(rt: HostRuntime) -> Result<()> {
     print!(rt; "{}", orders::of_nulls(alloc)?)?;
     print!(rt; "{}", orders::of_rows(alloc)?)?;
     print!(rt; "{}", copies::of_rows(alloc)?)?;
-    print!(rt; "{}", copies::of_plans(alloc)?)?;
+    let plan = fs::read(&rt, "plan.json")?;
+    print!(rt; "{}", copies::of_plans(alloc, plan.as_slice())?)?;
     print!(rt; "{}", copies::lines(alloc)?)?;
     Ok(())
 }

@@ -1,6 +1,6 @@
 use Rattle.std.proofs.Common.{◌≡◌, ◌++◌}
 use Rattle.std.specs.Vec.Iter.{into_iter_items, into_iter_len}
-use Rattle.vx_cli.proofs.gathered.Given as goal
+use Rattle.vx_main.proofs.gathered.Given as goal
 
 abbrev pub invariant-loop-word : goal.invariant-loop-word
 invariant-loop-word l = l.all.items ++ into_iter_items l.rest ≡ into_iter_items l.initial.rest

@@ -6,7 +6,7 @@ use Rattle.std.proofs.lemmas.Grind.{get_or_default_zero}
 use Rattle.std.proofs.lemmas.List.{get_or-replicate, get_or_past, length-replicate}
 use Rattle.std.proofs.Math.Seq.{take-append_seam}
 use Rattle.vx_pool.specs.Quantum.{quantum, IsUnit}
-use Rattle.vx_pool.specs.Pools.{Pools, IsShape, IsLeaf, used_of, ahead_of, leaf_reserves, reserved_of, would_reserve, with_used, with_ahead, after_ahead, empty_tree, Explains, node_count}
+use Rattle.vx_pool.specs.Pools.{Pools, IsShape, IsLeaf, used_of, ahead_of, leaf_reserves, reserved_of, would_reserve, with_used, with_ahead, empty_tree, Explains, node_count}
 use Rattle.vx_pool.specs.Sums.{Moves, HasSums, IsKept}
 use Rattle.vx_pool.proofs.QuantumLemmas.{quantum_none, quantum_enough, quantum_close, quantum_rises, quantum_same}
 use Rattle.vx_pool.proofs.SumLemmas.{within_root, added_up_is, has_moved, children_sum_none}
@@ -289,7 +289,7 @@ take_within pools sums kept leaf used bytes is_leaf is room =
     let capacity : pools.capacity ≤ 2 ^ 33 = kept.tree.bounded in
     (subst (λ (n : ℕ). used + bytes ≤ n) was within, omega arith)
 
--- What `ahead` reads: what the leaf uses, the sums of the root and of the leaf, and the new amount.
+-- What `would` reads: what the leaf uses, the sums of the root and of the leaf, and the new amount.
 module _ (pools : Pools) (sums : List ℕ) (kept : IsKept pools sums) (leaf bytes used root was amount : ℕ) (is_leaf : IsLeaf pools.parents leaf) (used_read : used ≡ get_or pools.used leaf used) (root_read : root ≡ get_or sums 0 root) (was_read : was ≡ get_or sums leaf was) (amount_read : amount ≡ quantum pools.unit (max used bytes)) where
   root_sum : root ≡ get_or sums 0 0
   root_sum =
@@ -314,16 +314,16 @@ module _ (pools : Pools) (sums : List ℕ) (kept : IsKept pools sums) (leaf byte
       omega (arith, root_is, was_is)
 
   -- the root and the new amount together fit
-  pub ahead_fits : bytes ≤ 2 ^ 40 → root + amount < 2 ^ 64
-  ahead_fits most =
+  pub would_fits : bytes ≤ 2 ^ 40 → root + amount < 2 ^ 64
+  would_fits most =
       let bounded : used ≤ 2 ^ 33 = used_bounded pools sums kept leaf is_leaf used used_read in
       let fits : get_or sums 0 0 + quantum pools.unit (max used bytes) < 2 ^ 64 =
       amount_fits pools sums kept leaf is_leaf (max used bytes) (omega arith) in
       let root_is = root_sum in
       omega (arith, root_is, amount_read, fits)
 
-  -- what is compared with the capacity is what the root would have reserved
-  pub would_read : root - was + amount ≡ would_reserve pools leaf bytes
+  -- what is answered is what the root would have reserved
+  would_read : root - was + amount ≡ would_reserve pools leaf bytes
   would_read =
       let is : would_reserve pools leaf bytes ≡ get_or sums 0 0 - get_or sums leaf 0 + quantum pools.unit (max (used_of pools leaf) bytes) =
       would_is pools sums kept leaf bytes is_leaf in
@@ -336,33 +336,27 @@ module _ (pools : Pools) (sums : List ℕ) (kept : IsKept pools sums) (leaf byte
   would_seen now is =
       subst (λ (each : Pools). root - was + amount ≡ would_reserve each leaf bytes) is would_read
 
-  -- the tree that `ahead` leaves where there is room
-  pub ahead_leaves : (now : Pools) (peak : ℕ) → pools ≡ now → peak ≡ max pools.peak (root - was + amount) → record (with_ahead pools leaf bytes) { peak = peak } ≡ after_ahead now leaf bytes
-  ahead_leaves now peak is peak_is =
-      let topped : peak ≡ max pools.peak (would_reserve pools leaf bytes) =
-      peak_is ∙ ap (λ n. max pools.peak n) would_read in
-      subst (λ (each : Pools). record (with_ahead pools leaf bytes) { peak = peak } ≡ after_ahead each leaf bytes) is
-      (ap (λ (n : ℕ). record (with_ahead pools leaf bytes) { peak = n }) topped)
+-- where there is no room, the three numbers show it
+pub explained : (pools : Pools) (sums : List ℕ) → IsKept pools sums → (now : Pools) → pools ≡ now → (leaf bytes capacity reserved would : ℕ) → capacity ≡ pools.capacity → reserved ≡ get_or sums 0 reserved → would ≡ would_reserve now leaf bytes → Explains now leaf bytes (record { capacity = capacity; reserved = reserved; would = would })
+explained pools sums kept now is leaf bytes capacity reserved would capacity_is read would_is_it = record {
+  capacity = capacity_is ∙ ap (λ (each : Pools). each.capacity) is;
+  reserved = sum_is pools sums kept 0 reserved (omega arith) read ∙ ap (λ (each : Pools). reserved_of each 0) is;
+  would = would_is_it;
+}
 
-  -- where there is no room, the three numbers show it
-  pub explained : (now : Pools) (capacity : ℕ) → pools ≡ now → capacity ≡ pools.capacity → Explains now leaf bytes (record { capacity = capacity; reserved = root; would = root - was + amount })
-  explained now capacity is capacity_is = record {
-    capacity = capacity_is ∙ ap (λ (each : Pools). each.capacity) is;
-    reserved = root_sum ∙ sym (reserved_is pools sums kept 0 (omega arith)) ∙ ap (λ (each : Pools). reserved_of each 0) is;
-    would = would_seen now is;
-  }
-
-  -- where there is room, the tree follows the rule
-  pub kept_reserved : (new : List ℕ) (capacity peak : ℕ) → Moves pools.parents sums new leaf amount → capacity ≡ pools.capacity → root - was + amount ≤ capacity → peak ≡ max pools.peak (root - was + amount) → IsKept (record (with_ahead pools leaf bytes) { peak = peak }) new
-  kept_reserved new capacity peak moves capacity_is room peak_is =
-      let root_is = root_sum in
-      let was_is = was_sum in
-      let within : was ≤ root = was_within in
-      let moved_root : get_or new 0 0 + get_or sums leaf 0 ≡ get_or sums 0 0 + amount = moves.root in
-      let new_root : get_or new 0 0 ≡ root - was + amount = omega (arith, root_is, was_is) in
-      kept_ahead pools sums kept leaf bytes is_leaf new peak
-      (subst (λ (n : ℕ). Moves pools.parents sums new leaf n) amount_is moves)
-      (omega (arith, new_root)) (omega (arith, new_root))
+-- where there is room, the tree follows the rule
+pub kept_reserved : (pools : Pools) (sums : List ℕ) → IsKept pools sums → (now : Pools) → pools ≡ now → (leaf bytes would amount : ℕ) → IsLeaf pools.parents leaf → would ≡ would_reserve now leaf bytes → amount ≡ quantum pools.unit (max (used_of pools leaf) bytes) → (new : List ℕ) (capacity peak : ℕ) → Moves pools.parents sums new leaf amount → capacity ≡ pools.capacity → would ≤ capacity → peak ≡ max pools.peak would → IsKept (record (with_ahead pools leaf bytes) { peak = peak }) new
+kept_reserved pools sums kept now is leaf bytes would amount is_leaf would_now amount_is new capacity peak moves capacity_is room peak_is =
+    let would_then : would ≡ would_reserve pools leaf bytes =
+    would_now ∙ ap (λ (each : Pools). would_reserve each leaf bytes) (sym is) in
+    let sum : would_reserve pools leaf bytes ≡ get_or sums 0 0 - get_or sums leaf 0 + quantum pools.unit (max (used_of pools leaf) bytes) =
+    would_is pools sums kept leaf bytes is_leaf in
+    let within : get_or sums leaf 0 ≤ get_or sums 0 0 = leaf_within pools sums kept leaf is_leaf.there in
+    let moved_root : get_or new 0 0 + get_or sums leaf 0 ≡ get_or sums 0 0 + amount = moves.root in
+    let new_root : get_or new 0 0 ≡ would = omega (arith, would_then, sum, amount_is) in
+    kept_ahead pools sums kept leaf bytes is_leaf new peak
+    (subst (λ (n : ℕ). Moves pools.parents sums new leaf n) amount_is moves)
+    (omega (arith, new_root)) (omega (arith, new_root))
 
 -- a leaf has at least as much reserved as it uses, and as it has ahead
 pub leaf_room : (pools : Pools) (sums : List ℕ) → IsKept pools sums → (leaf : ℕ) → IsLeaf pools.parents leaf → max (used_of pools leaf) (ahead_of pools leaf) ≤ reserved_of pools leaf

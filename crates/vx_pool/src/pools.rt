@@ -80,18 +80,17 @@ impl<L: Names> Tree<L> {
         ensures err { OnErr result (self.new ≡ self.old) }
         ensures rule { IsTree self.new }
     {
-        let place = leaf as usize;
-        let amount = quantum(self.unit, self.used[place].max(bytes));
-        let reserved = self.reserved[0];
-        let would = reserved - self.reserved[place] + amount;
+        let would = self.would(leaf, bytes);
         let capacity = self.capacity.amount();
         if would > capacity {
             return Err(Short {
                 capacity,
-                reserved,
+                reserved: self.reserved[0],
                 would,
             });
         }
+        let place = leaf as usize;
+        let amount = quantum(self.unit, self.used[place].max(bytes));
         set_path(&self.parents, &mut self.reserved, leaf, amount);
         self.ahead[place] = bytes;
         self.peak = self.peak.max(would);
@@ -162,6 +161,19 @@ impl<L: Names> Tree<L> {
         ensures rule { IsTree self.now }
     {
         self.capacity.amount() - self.reserved[0]
+    }
+
+    /// What the root would have reserved with `bytes` ahead in a leaf: `ahead` is refused where that passes
+    /// the capacity.
+    pub fn would(&self, leaf: u32, bytes: u64) -> u64
+        requires leaf { IsLeaf self.now.parents leaf }
+        requires bytes { bytes ≤ 2 ^ 40 }
+        ensures value { result ≡ would_reserve self.now leaf bytes }
+        ensures rule { IsTree self.now }
+    {
+        let place = leaf as usize;
+        let wanted = self.used[place].max(bytes);
+        self.reserved[0] - self.reserved[place] + quantum(self.unit, wanted)
     }
 
     pub fn capacity(&self) -> u64

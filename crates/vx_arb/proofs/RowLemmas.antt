@@ -1,10 +1,10 @@
 -- Where a job's row stands, and what changes with its capacity, with its end, and with another row.
-use Rattle.std.proofs.Common.{◌≡◌, ◌≢◌, ℕ, suc, ◌+◌, ◌<◌, ◌≤◌, Bool, true, false, not, cond, eqb, ltb, ◌||◌, Option, Some, None, unwrap_or, List, [], ◌∷◌, ◌++◌, length, get_or, set, refl, sym, ◌∙◌, ap, arith}
+use Rattle.std.proofs.Common.{◌≡◌, ◌≢◌, ℕ, suc, ◌+◌, ◌<◌, ◌≤◌, Bool, true, false, not, cond, eqb, ltb, ◌||◌, Option, Some, None, List, [], ◌∷◌, ◌++◌, length, get_or, set, refl, sym, ◌∙◌, ap, arith}
 use Rattle.std.proofs.lemmas.Bool.Decides.{nat_tests}
 use Rattle.std.specs.List.{position_or_len, position, sum_by, count_by, remove}
 use Rattle.std.proofs.lemmas.List.Sums.{sum_by-cons}
 use Rattle.vx_arb.specs.declared.rows.Live.{Live}
-use Rattle.vx_arb.specs.Rows.{is_live, capacity_at, max_at, max_in, with_capacity, without}
+use Rattle.vx_arb.specs.Rows.{is_live, capacity_at, max_at, with_capacity, without}
 
 -- a number that equals one of two that differ isn't the other
 pub differs : (a job other : ℕ) → eqb a job ≡ true → other ≢ job → eqb a other ≡ false
@@ -36,10 +36,10 @@ first_capacity (row ∷ rest) job d h =
       | false ↦ λ lt. let e : 1 + place rest job ≡ suc (place rest job) = omega arith in rw e (first_capacity rest job d (omega arith))
     ] h
 
-first_max : (live : List Live) (job : ℕ) (d : Live) → place live job < length live → (get_or live (place live job) d).max ≡ max_in live job
+first_max : (live : List Live) (job : ℕ) (d : Live) → place live job < length live → Some ((get_or live (place live job) d).max) ≡ max_at live job
 first_max [] job d h = absurd (omega arith)
 first_max (row ∷ rest) job d h =
-    elim (eqb row.job job) as (λ b. cond (not b) (1 + place rest job) 0 < length (row ∷ rest) → (get_or (row ∷ rest) (cond (not b) (1 + place rest job) 0) d).max ≡ unwrap_or (cond b (Some row.max) (max_at rest job)) 0) [
+    elim (eqb row.job job) as (λ b. cond (not b) (1 + place rest job) 0 < length (row ∷ rest) → Some ((get_or (row ∷ rest) (cond (not b) (1 + place rest job) 0) d).max) ≡ cond b (Some row.max) (max_at rest job)) [
       | true ↦ λ _. refl
       | false ↦ λ lt. let e : 1 + place rest job ≡ suc (place rest job) = omega arith in rw e (first_max rest job d (omega arith))
     ] h
@@ -63,7 +63,7 @@ first_removed (row ∷ rest) job h =
 pub capacity_found : (live : List Live) (job i : ℕ) (d : Live) → position (λ (row : Live). eqb row.job job) live ≡ Some i → (get_or live i d).capacity ≡ capacity_at live job
 capacity_found live job i d h = let f = place_found live job i h in rw f.0 (first_capacity live job d f.1)
 
-pub max_found : (live : List Live) (job i : ℕ) (d : Live) → position (λ (row : Live). eqb row.job job) live ≡ Some i → (get_or live i d).max ≡ max_in live job
+pub max_found : (live : List Live) (job i : ℕ) (d : Live) → position (λ (row : Live). eqb row.job job) live ≡ Some i → Some ((get_or live i d).max) ≡ max_at live job
 max_found live job i d h = let f = place_found live job i h in rw f.0 (first_max live job d f.1)
 
 pub set_found : (live : List Live) (job capacity i : ℕ) (d : Live) → position (λ (row : Live). eqb row.job job) live ≡ Some i → set live i (record { job = (get_or live i d).job; max = (get_or live i d).max; capacity = capacity }) ≡ with_capacity live job capacity

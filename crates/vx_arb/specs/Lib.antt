@@ -4,3 +4,4 @@ pub mod Unmet
 pub mod Rows
 pub mod Books
 pub mod Keeping
+pub mod Fields

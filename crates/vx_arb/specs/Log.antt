@@ -1,5 +1,6 @@
 -- What the log makes of each job's capacity, and of the capacity that no job has.
-use Rattle.std.specs.Prelude.{ℕ, ◌-◌, ◌==◌, Bool, false, if◌then◌else◌, List, sum_by}
+use Rattle.std.specs.Prelude.{◌≡◌, ℕ, ◌-◌, ◌≤◌, ◌==◌, Bool, false, if◌then◌else◌, List, [], ◌∷◌, sum_by}
+use Rattle.std.specs.List.{list_any}
 use Rattle.vx_arb.specs.declared.entries.Entry.{Entry}
 use Rattle.vx_arb.specs.declared.entries.Entry.TheVariants.{Grant, Shrink, Reclaim, Abort, Retire}
 
@@ -41,6 +42,24 @@ capacity_of log job = sum_by (given_to job) log - sum_by (taken_from job) log
 -- The capacity that no job has: the total, less what all jobs have.
 abbrev pub free_of : List Entry → ℕ → ℕ
 free_of log total = total - (sum_by given log - sum_by taken log)
+
+-- whether a log has an entry of a job
+abbrev pub is_named : List Entry → ℕ → Bool
+is_named log job = list_any (λ entry. job_of entry == job) log
+
+-- the jobs that a log names, each once
+abbrev pub jobs_of : List Entry → List ℕ
+jobs_of [] = []
+jobs_of (entry ∷ rest) = if is_named rest (job_of entry) then jobs_of rest else job_of entry ∷ jobs_of rest
+
+-- the capacities of all jobs together
+abbrev pub handed_out : List Entry → ℕ
+handed_out log = sum_by (capacity_of log) (jobs_of log)
+
+-- What is free is the total less what the jobs have together, which is no more than there is.
+pub record SharesOut (log : List Entry) (total : ℕ) : Type 0 where
+  pub within : handed_out log ≤ total
+  pub rest : free_of log total ≡ total - handed_out log
 
 -- whether an entry ends the life of a job
 abbrev pub is_retirement : ℕ → Entry → Bool

@@ -1,14 +1,15 @@
 //! The arbitrator.
 ghost use Rattle.std.specs.Prelude.{◌≡◌, ◌≢◌, ◌+◌, ◌-◌, ◌<◌, ◌≤◌, ◌↔◌, true, false, Some, None, length, IsTrue, IsErr, IsSomeAnd, IfSome, IfNone, IfOk, IfErr, OnOk, OnErr, option_map};
 ghost use Rattle.vx_arb.specs.Books.{IsBooks, Asked, Stands, IsReclaimed, new_books, after_admit, after_begin, request_for, is_met, share_of, moved_of, wanted_of, with_given, after_taking, after_shrink, after_reclaim, shrink_entry, reclaim_entry, with_taken, after_move, after_look, after_grant, is_unmet, is_unmet_total, cause_of, note_for, after_abort, after_retire, is_requester};
-ghost use Rattle.vx_arb.specs.Rows.{is_live, capacity_at, max_in, IsTied};
+ghost use Rattle.vx_arb.specs.Rows.{is_live, capacity_at, max_at, max_in, IsTied};
 ghost use Rattle.vx_arb.specs.Members.{IsWithin};
 ghost use Rattle.vx_arb.specs.Unmet.{IsJust};
 ghost use Rattle.vx_arb.specs.Keeping.{Takes, MayTake};
 
 use crate::requests::{Lacking, Request};
 use crate::rows::{
-    capacity_in, has_largest, holds_job, max_for, set_capacity, take_out, with_one_less,
+    capacity_in, has_largest, holds_job, max_for, max_where_live, set_capacity, take_out,
+    with_one_less,
 };
 use crate::sights::{all_emptied, none_unused, nothing_left};
 use crate::{AbortNote, Admitted, Entry, Live, Look, Member, NoteCause, Standing};
@@ -41,29 +42,12 @@ impl<L> Model for Arb<L> {
     ghost Value = { Books };
 
     ghost use Rattle.std.specs.Prelude.{vec_capacity};
+    ghost use Rattle.vx_arb.specs.Fields.{books_of};
     ghost use Rattle.vx_arb.specs.Keeping.{IsKept};
 
-    ghost view = { λ arb. record {
-      total = arb.total;
-      free = arb.free;
-      log = arb.log.items;
-      live = arb.live.items;
-      admitted = arb.admitted.items;
-      requests = arb.requests;
-      standing = arb.standing;
-      spare = arb.spare;
-    } };
+    ghost view = { books_of };
 
-    ghost invariant = { λ arb. IsKept (record {
-      total = arb.total;
-      free = arb.free;
-      log = arb.log.items;
-      live = arb.live.items;
-      admitted = arb.admitted.items;
-      requests = arb.requests;
-      standing = arb.standing;
-      spare = arb.spare;
-    }) (vec_capacity arb.log) };
+    ghost invariant = { λ arb. IsKept (books_of arb) (vec_capacity arb.log) };
 }
 
 // Of a shrink an entry is written where something was moved.
@@ -184,6 +168,7 @@ impl<L: Names> Arb<L> {
         ensures member { M.lowers member.old result member.new }
         ensures stands { Stands self.new request.new }
         ensures job { M.job_is member.new ≡ M.job_is member.old }
+        ensures ended { M.ended_is member.new ≡ M.ended_is member.old }
         ensures tied { IsTied self.new.live (M.job_is member.new) (M.capacity_is member.new) }
         ensures within { IsWithin (M.capacity_is member.new) (M.reserved_is member.new) (M.unused_is member.new) }
         ensures rule { IsBooks self.new }
@@ -210,6 +195,7 @@ impl<L: Names> Arb<L> {
             (moved_of self.old request.old (M.job_is member.old) (M.unused_is member.old + result)) member.new }
         ensures stands { Stands self.new request.new }
         ensures job { M.job_is member.new ≡ M.job_is member.old }
+        ensures ended { M.ended_is member.old ≡ true → M.ended_is member.new ≡ true }
         ensures tied { IsTied self.new.live (M.job_is member.new) (M.capacity_is member.new) }
         ensures within { IsWithin (M.capacity_is member.new) (M.reserved_is member.new) (M.unused_is member.new) }
         ensures rule { IsBooks self.new }
@@ -261,6 +247,7 @@ impl<L: Names> Arb<L> {
         ensures kept { OnErr result (member.new ≡ member.old) }
 
         ensures job { M.job_is member.new ≡ M.job_is member.old }
+        ensures ended { M.ended_is member.new ≡ M.ended_is member.old }
         ensures tied { IsTied self.new.live (M.job_is member.new) (M.capacity_is member.new) }
         ensures within { OnOk result (IsWithin (M.capacity_is member.new) (M.reserved_is member.new) (M.unused_is member.new)) }
         ensures rule { IsBooks self.new }
@@ -290,6 +277,7 @@ impl<L: Names> Arb<L> {
         ensures books { self.new ≡ after_abort self.old request (M.job_is victim.old) }
         ensures member { M.aborts victim.old result victim.new }
         ensures job { M.job_is victim.new ≡ M.job_is victim.old }
+        ensures ended { M.ended_is victim.new ≡ true }
         ensures tied { IsTied self.new.live (M.job_is victim.new) (M.capacity_is victim.new) }
         ensures within { IsWithin (M.capacity_is victim.new) (M.reserved_is victim.new) (M.unused_is victim.new) }
         ensures rule { IsBooks self.new }
@@ -348,6 +336,17 @@ impl<L: Names> Arb<L> {
         (self.log, self.free)
     }
 
+    /// Whether a request can be granted: its job's max allows what the job would have, and that is free.
+    pub fn is_met(&self, request: &Request) -> bool
+        ensures value { result ≡ is_met self.now request.now }
+        ensures rule { IsBooks self.now }
+    {
+        if request.would() > max_for(&self.live, request.job()) {
+            return false;
+        }
+        request.need() <= self.free.amount()
+    }
+
     /// Whether a request may abort a job: no smaller way is left.
     pub fn may_abort(&self, request: &Request, job: u32) -> bool
         ensures value { result ≡ is_unmet self.now request.now job }
@@ -388,6 +387,21 @@ impl<L: Names> Arb<L> {
         ensures rule { IsBooks self.now }
     {
         &self.live
+    }
+
+    pub fn is_live(&self, job: u32) -> bool
+        ensures value { result ≡ is_live self.now.live job }
+        ensures rule { IsBooks self.now }
+    {
+        holds_job(&self.live, job)
+    }
+
+    /// The greatest capacity in bytes that a live job may have.
+    pub fn max_of(&self, job: u32) -> Option<u64>
+        ensures value { result ≡ max_at self.now.live job }
+        ensures rule { IsBooks self.now }
+    {
+        max_where_live(&self.live, job)
     }
 
     /// All admissions in order, also of jobs that have retired.

@@ -104,6 +104,9 @@ pub trait Member<L: Names> {
         ensures short { OnShort result (self.new ≡ self.old) }
         ensures ended { is_end result ≡ ended_is self.new }
 
+        // One that had ended before stays as it was.
+        ensures over { ended_is self.old ≡ true → self.new ≡ self.old }
+
         ensures job { job_is self.new ≡ job_is self.old }
         ensures capacity { capacity_is self.new ≡ capacity_is self.old }
         ensures rule { IsWithin (capacity_is self.new) (reserved_is self.new) (unused_is self.new) };
@@ -118,6 +121,9 @@ pub trait Member<L: Names> {
         // was freed nothing has changed.
         ensures enough { ended_is self.new ≡ false → result < want → reclaimable_is self.new ≡ 0 }
         ensures nothing { ended_is self.new ≡ false → result ≡ 0 → self.new ≡ self.old }
+
+        // A reclaim may end it, but it doesn't go on after its end.
+        ensures over { ended_is self.old ≡ true → ended_is self.new ≡ true }
 
         ensures job { job_is self.new ≡ job_is self.old }
         ensures capacity { capacity_is self.new ≡ capacity_is self.old }

@@ -1,6 +1,6 @@
 //! The live jobs, the admissions, and the request that stands.
 ghost use Rattle.std.specs.Prelude.{◌≡◌, ◌==◌, position};
-ghost use Rattle.vx_arb.specs.Rows.{is_live, capacity_at, max_in, with_capacity, without, is_largest, one_less};
+ghost use Rattle.vx_arb.specs.Rows.{is_live, capacity_at, max_at, max_in, with_capacity, without, is_largest, one_less};
 
 /// A live job, with the greatest capacity that it may have and the one that it has, in bytes.
 #[derive(Clone, Copy, Debug, PartialEq, Eq)]
@@ -53,13 +53,19 @@ pub fn capacity_in(live: &[Live], job: u32) -> u64
     }
 }
 
+pub fn max_where_live(live: &[Live], job: u32) -> Option<u64>
+    ensures { result ≡ max_at live.now job }
+{
+    match place_of(live, job) {
+        Some(place) => Some(live[place].max),
+        None => None,
+    }
+}
+
 pub fn max_for(live: &[Live], job: u32) -> u64
     ensures { result ≡ max_in live.now job }
 {
-    match place_of(live, job) {
-        Some(place) => live[place].max,
-        None => 0,
-    }
+    max_where_live(live, job).unwrap_or(0)
 }
 
 pub fn set_capacity(live: &mut Vec<Live>, job: u32, capacity: u64)

@@ -38,7 +38,22 @@ fn pair(alloc: Global, first: Plain, second: Plain) -> Result<World<Brand, Plain
     Ok(World::new(arb, members))
 }
 
-/// Such a world by the scripts of its members, with both admitted with the total as their max.
+/// Such a world by the scripts of its members, with no job admitted.
+pub fn bare(
+    alloc: Global,
+    first: &[u64],
+    soft: bool,
+    second: &[u64],
+) -> Result<World<Brand, Plain>, AllocError>
+    requires first { IsTrue (list_all (λ bytes. nat_le bytes (2 ^ 33)) first.now) }
+    requires second { IsTrue (list_all (λ bytes. nat_le bytes (2 ^ 33)) second.now) }
+{
+    let first = plain(alloc, 0, first, soft)?;
+    let second = plain(alloc, 1, second, false)?;
+    pair(alloc, first, second)
+}
+
+/// The same, with both admitted with the total as their max.
 pub fn world(
     alloc: Global,
     first: &[u64],
@@ -48,9 +63,7 @@ pub fn world(
     requires first { IsTrue (list_all (λ bytes. nat_le bytes (2 ^ 33)) first.now) }
     requires second { IsTrue (list_all (λ bytes. nat_le bytes (2 ^ 33)) second.now) }
 {
-    let first = plain(alloc, 0, first, soft)?;
-    let second = plain(alloc, 1, second, false)?;
-    let mut world = pair(alloc, first, second)?;
+    let mut world = bare(alloc, first, soft, second)?;
     let admissions = [
         Event::Admit { job: 0, max: TOTAL },
         Event::Admit { job: 1, max: TOTAL },

@@ -10,7 +10,7 @@ use Rattle.vx_arb.specs.Books.{Books, Asked, IsBooks, Stands, after_taking}
 use Rattle.vx_arb.specs.Rows.{is_live, capacity_at, with_capacity, IsTied}
 use Rattle.vx_arb.proofs.RowLemmas.{capacity_set, capacity_others, live_set, sum_set}
 use Rattle.vx_world.specs.Scenes.{Scene, IsWorld, Fits, member_of, with_member}
-use Rattle.vx_world.specs.Steps.{Turns, on_request}
+use Rattle.vx_world.specs.Steps.{Turns, Lasts, on_request}
 use Rattle.vx_world.proofs.Turning.{found_job, world_turned}
 use Rattle.vx_world.proofs.Finding.{place_at, found_at, set_at}
 
@@ -73,12 +73,13 @@ seated_tied {M} ghosts scene job place before w s live =
     let is = seated_job ghosts scene.members job place before s in
     subst (λ n. IsTied scene.books.live n (ghosts.capacity_is before)) (sym is) (record { there = live; same = seated_row ghosts scene job place before w s })
 
-pub seated_turns : {M L : Type 0} (ghosts : Ghosts M L) (members : List M) (job place : ℕ) (before after : M) (change : M → M → Type 0) → Seated ghosts members job place before → change before after → Turns ghosts members job change (set members place after)
-seated_turns ghosts members job place before after change s turned = record {
+pub seated_turns : {M L : Type 0} (ghosts : Ghosts M L) (members : List M) (job place : ℕ) (before after : M) (change : M → M → Type 0) → Seated ghosts members job place before → change before after → Lasts ghosts before after → Turns ghosts members job change (set members place after)
+seated_turns ghosts members job place before after change s turned lasts = record {
   before = before;
   after = after;
   found = seated_found ghosts members job place before s;
   turned = turned;
+  lasts = lasts;
   members = seated_set ghosts members job place before after s;
 }
 

@@ -13,7 +13,7 @@ use Rattle.vx_arb.proofs.Aborts.{stands_well}
 use Rattle.vx_world.specs.declared.events.Event.TheVariants.{Grant, Abort}
 use Rattle.vx_world.specs.declared.events.Reply.TheVariants.{Granted, Aborted}
 use Rattle.vx_world.specs.Scenes.{Scene, IsWorld, Fits}
-use Rattle.vx_world.specs.Steps.{Step, Turns, OnAsked, is_lawful, is_running, on_member, on_request}
+use Rattle.vx_world.specs.Steps.{Step, Turns, Lasts, OnAsked, is_lawful, is_running, on_member, on_request}
 use Rattle.vx_world.proofs.Finding.{both}
 use Rattle.vx_world.proofs.Stepping.{seated_passes, not_true}
 use Rattle.vx_world.proofs.Changes.{Seated, seated_job, seated_tied, seated_turns, rewrites_set, world_changed, row_now, asked_stands, running_live, asked_passes, on_asked}
@@ -33,14 +33,14 @@ pub grant_tied : {M L : Type 0} (ghosts : Ghosts M L) (scene now : Scene M) → 
 grant_tied ghosts scene now is request place before w lawful asked s =
     seated_tied ghosts scene request.job place before w s ((grant_may ghosts scene now is request lawful asked).1)
 
-pub grant_made : {M L : Type 0} (ghosts : Ghosts M L) (scene now : Scene M) → scene ≡ now → (request : Asked) (place : ℕ) (before after : M) (books : Books) → IsTrue (is_lawful ghosts now Grant) → Seated ghosts scene.members request.job place before → scene.request ≡ Some request → books ≡ after_grant scene.books request → ghosts.raises before request.need after → Step ghosts now Grant Granted (record { books = books; members = set scene.members place after; request = None })
-grant_made {M} ghosts scene now is request place before after books lawful s req books_are raised =
+pub grant_made : {M L : Type 0} (ghosts : Ghosts M L) (scene now : Scene M) → scene ≡ now → (request : Asked) (place : ℕ) (before after : M) (books : Books) → IsTrue (is_lawful ghosts now Grant) → Seated ghosts scene.members request.job place before → scene.request ≡ Some request → books ≡ after_grant scene.books request → ghosts.raises before request.need after → Lasts ghosts before after → Step ghosts now Grant Granted (record { books = books; members = set scene.members place after; request = None })
+grant_made {M} ghosts scene now is request place before after books lawful s req books_are raised lasts =
     let new : Scene M = record { books = books; members = set scene.members place after; request = None } in
     record {
       lawful = lawful;
       makes = subst (λ (n : Scene M). OnAsked n.request (λ request. Turns ghosts n.members request.job (λ before after. ghosts.raises before request.need after) new.members × (new.books ≡ after_grant n.books request) × (new.request ≡ None))) is
           (on_asked scene.request request (λ request. Turns ghosts scene.members request.job (λ before after. ghosts.raises before request.need after) new.members × (new.books ≡ after_grant scene.books request) × (new.request ≡ None)) req
-          (seated_turns ghosts scene.members request.job place before after (λ before after. ghosts.raises before request.need after) s raised, books_are, refl));
+          (seated_turns ghosts scene.members request.job place before after (λ before after. ghosts.raises before request.need after) s raised lasts, books_are, refl));
     }
 
 pub grant_keeps : {M L : Type 0} (ghosts : Ghosts M L) (scene now : Scene M) → scene ≡ now → (request : Asked) (place : ℕ) (before after : M) (books : Books) → IsWorld ghosts scene → IsTrue (is_lawful ghosts now Grant) → scene.request ≡ Some request → Seated ghosts scene.members request.job place before → books ≡ after_grant scene.books request → ghosts.job_is after ≡ ghosts.job_is before → IsTied books.live (ghosts.job_is after) (ghosts.capacity_is after) → Fits ghosts after → IsBooks books → IsWorld ghosts (record { books = books; members = set scene.members place after; request = None })
@@ -94,15 +94,15 @@ pub abort_unmet : {M L : Type 0} (ghosts : Ghosts M L) (scene now : Scene M) →
 abort_unmet ghosts scene now is job place before request lawful asked s =
     ap (λ n. is_unmet scene.books request n) (seated_job ghosts scene.members job place before s) ∙ (abort_may ghosts scene now is job request lawful asked).1
 
-pub abort_made : {M L : Type 0} (ghosts : Ghosts M L) (scene now : Scene M) → scene ≡ now → (job place : ℕ) (before after : M) (request : Asked) (note : AbortNote) (books : Books) → IsTrue (is_lawful ghosts now (Abort job)) → Seated ghosts scene.members job place before → scene.request ≡ Some request → note ≡ note_for scene.books request (ghosts.job_is before) → books ≡ after_abort scene.books request (ghosts.job_is before) → ghosts.aborts before note after → Step ghosts now (Abort job) (Aborted note) (record { books = books; members = set scene.members place after; request = None })
-abort_made {M} ghosts scene now is job place before after request note books lawful s req note_is books_are aborted =
+pub abort_made : {M L : Type 0} (ghosts : Ghosts M L) (scene now : Scene M) → scene ≡ now → (job place : ℕ) (before after : M) (request : Asked) (note : AbortNote) (books : Books) → IsTrue (is_lawful ghosts now (Abort job)) → Seated ghosts scene.members job place before → scene.request ≡ Some request → note ≡ note_for scene.books request (ghosts.job_is before) → books ≡ after_abort scene.books request (ghosts.job_is before) → ghosts.aborts before note after → Lasts ghosts before after → Step ghosts now (Abort job) (Aborted note) (record { books = books; members = set scene.members place after; request = None })
+abort_made {M} ghosts scene now is job place before after request note books lawful s req note_is books_are aborted lasts =
     let new : Scene M = record { books = books; members = set scene.members place after; request = None } in
     let its : ghosts.job_is before ≡ job = seated_job ghosts scene.members job place before s in
     record {
       lawful = lawful;
       makes = subst (λ (n : Scene M). OnAsked n.request (λ request. Turns ghosts n.members job (λ before after. ghosts.aborts before note after) new.members × (note ≡ note_for n.books request job) × (new.books ≡ after_abort n.books request job) × (new.request ≡ None))) is
           (on_asked scene.request request (λ request. Turns ghosts scene.members job (λ before after. ghosts.aborts before note after) new.members × (note ≡ note_for scene.books request job) × (new.books ≡ after_abort scene.books request job) × (new.request ≡ None)) req (
-            seated_turns ghosts scene.members job place before after (λ before after. ghosts.aborts before note after) s aborted,
+            seated_turns ghosts scene.members job place before after (λ before after. ghosts.aborts before note after) s aborted lasts,
             note_is ∙ ap (λ n. note_for scene.books request n) its,
             books_are ∙ ap (λ n. after_abort scene.books request n) its,
             refl,

@@ -11,3 +11,4 @@ pub mod Retiring
 pub mod Starting
 pub mod Looking
 pub mod Runs
+pub mod Lasting

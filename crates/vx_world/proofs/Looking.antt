@@ -82,8 +82,9 @@ run_watched ghosts looks old new (event ∷ events) (reply ∷ replies) r h = (
   r.0,
   (
     r.1.0,
+    r.1.1,
     h,
     event_tells ghosts looks old r.0 event reply r.1.0.makes h,
-    run_watched ghosts (looks_after ghosts old looks event reply) r.0 new events replies r.1.1 (event_holds ghosts looks old r.0 event reply r.1.0.makes h),
+    run_watched ghosts (looks_after ghosts old looks event reply) r.0 new events replies r.1.2 (event_holds ghosts looks old r.0 event reply r.1.0.makes h),
   ),
 )

@@ -6,7 +6,7 @@ use Rattle.vx_arb.specs.Rows.{is_live, IsTied}
 use Rattle.vx_world.specs.declared.events.Event.TheVariants.{Reclaim}
 use Rattle.vx_world.specs.declared.events.Reply.TheVariants.{Freed}
 use Rattle.vx_world.specs.Scenes.{Scene, IsWorld, Fits}
-use Rattle.vx_world.specs.Steps.{Step, Reclaims, OnAsked, is_lawful, is_running, on_request, may_reclaim}
+use Rattle.vx_world.specs.Steps.{Step, Reclaims, Lasts, OnAsked, is_lawful, is_running, on_request, may_reclaim}
 use Rattle.vx_world.proofs.Finding.{both}
 use Rattle.vx_world.proofs.Changes.{Seated, seated_job, seated_tied, seated_turns, rewrites_taken, world_changed, row_now, running_live, on_asked}
 
@@ -17,13 +17,13 @@ pub reclaim_tied : {M L : Type 0} (ghosts : Ghosts M L) (scene now : Scene M) �
 reclaim_tied {M} ghosts scene now is job place before w lawful s =
     seated_tied ghosts scene job place before w s (lawful_live ghosts scene job (subst (λ (n : Scene M). is_lawful ghosts n (Reclaim job) ≡ true) (sym is) lawful))
 
-pub reclaim_made : {M L : Type 0} (ghosts : Ghosts M L) (scene now : Scene M) → scene ≡ now → (job place : ℕ) (before after : M) (request asked : Asked) (amount moved : ℕ) (books : Books) → IsTrue (is_lawful ghosts now (Reclaim job)) → Seated ghosts scene.members job place before → scene.request ≡ Some request → moved ≡ moved_of scene.books request (ghosts.job_is before) (ghosts.unused_is before + amount) → books ≡ after_reclaim scene.books (ghosts.job_is before) amount moved → asked ≡ after_move request → IsReclaimed ghosts.reclaims ghosts.lowers before (wanted_of scene.books request) amount moved after → Step ghosts now (Reclaim job) (Freed amount) (record { books = books; members = set scene.members place after; request = Some asked })
-reclaim_made {M} ghosts scene now is job place before after request asked amount moved books lawful s req moved_is books_are asked_is reclaimed =
+pub reclaim_made : {M L : Type 0} (ghosts : Ghosts M L) (scene now : Scene M) → scene ≡ now → (job place : ℕ) (before after : M) (request asked : Asked) (amount moved : ℕ) (books : Books) → IsTrue (is_lawful ghosts now (Reclaim job)) → Seated ghosts scene.members job place before → scene.request ≡ Some request → moved ≡ moved_of scene.books request (ghosts.job_is before) (ghosts.unused_is before + amount) → books ≡ after_reclaim scene.books (ghosts.job_is before) amount moved → asked ≡ after_move request → IsReclaimed ghosts.reclaims ghosts.lowers before (wanted_of scene.books request) amount moved after → Lasts ghosts before after → Step ghosts now (Reclaim job) (Freed amount) (record { books = books; members = set scene.members place after; request = Some asked })
+reclaim_made {M} ghosts scene now is job place before after request asked amount moved books lawful s req moved_is books_are asked_is reclaimed lasts =
     let new : Scene M = record { books = books; members = set scene.members place after; request = Some asked } in
     let its : ghosts.job_is before ≡ job = seated_job ghosts scene.members job place before s in
     let reclaims : Reclaims ghosts scene request job amount new = record {
       moved = moved;
-      turns = seated_turns ghosts scene.members job place before after _ s (moved_is ∙ ap (λ n. moved_of scene.books request n (ghosts.unused_is before + amount)) its, reclaimed);
+      turns = seated_turns ghosts scene.members job place before after _ s (moved_is ∙ ap (λ n. moved_of scene.books request n (ghosts.unused_is before + amount)) its, reclaimed) lasts;
       books = books_are ∙ ap (λ n. after_reclaim scene.books n amount moved) its;
       request_is = ap (λ (r : Asked). Some r) asked_is;
     } in

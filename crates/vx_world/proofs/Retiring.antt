@@ -8,7 +8,7 @@ use Rattle.vx_arb.proofs.RowLemmas.{gone, absent_capacity, capacity_kept, live_k
 use Rattle.vx_world.specs.declared.events.Event.TheVariants.{Retire}
 use Rattle.vx_world.specs.declared.events.Reply.TheVariants.{Retired}
 use Rattle.vx_world.specs.Scenes.{Scene, IsWorld, Fits}
-use Rattle.vx_world.specs.Steps.{Step, Turns, is_lawful, on_member, on_request}
+use Rattle.vx_world.specs.Steps.{Step, Turns, Lasts, is_lawful, on_member, on_request}
 use Rattle.vx_world.proofs.Finding.{both}
 use Rattle.vx_world.proofs.Stepping.{seated_passes}
 use Rattle.vx_world.proofs.Changes.{Seated, seated_turns, Rewrites, world_changed}
@@ -23,11 +23,11 @@ pub retire_bare : {M L : Type 0} (ghosts : Ghosts M L) (scene now : Scene M) →
 retire_bare ghosts scene now is job place before lawful s =
     let none : eqb (ghosts.reserved_is before) 0 ≡ true = (retire_may ghosts scene now is job place before lawful s).1 in grind (arith, nat_tests)
 
-pub retire_made : {M L : Type 0} (ghosts : Ghosts M L) (scene now : Scene M) → scene ≡ now → (job place bytes : ℕ) (before after : M) (books : Books) → IsTrue (is_lawful ghosts now (Retire job)) → Seated ghosts scene.members job place before → bytes ≡ ghosts.capacity_is before → ghosts.lowers before bytes after → books ≡ after_retire scene.books job → Step ghosts now (Retire job) Retired (record { books = books; members = set scene.members place after; request = scene.request })
-retire_made {M} ghosts scene now is job place bytes before after books lawful s whole lowered are = record {
+pub retire_made : {M L : Type 0} (ghosts : Ghosts M L) (scene now : Scene M) → scene ≡ now → (job place bytes : ℕ) (before after : M) (books : Books) → IsTrue (is_lawful ghosts now (Retire job)) → Seated ghosts scene.members job place before → bytes ≡ ghosts.capacity_is before → ghosts.lowers before bytes after → Lasts ghosts before after → books ≡ after_retire scene.books job → Step ghosts now (Retire job) Retired (record { books = books; members = set scene.members place after; request = scene.request })
+retire_made {M} ghosts scene now is job place bytes before after books lawful s whole lowered lasts are = record {
   lawful = lawful;
   makes = subst (λ (n : Scene M). Turns ghosts n.members job (λ before after. ghosts.lowers before (ghosts.capacity_is before) after) (set scene.members place after) × (books ≡ after_retire n.books job) × (scene.request ≡ n.request)) is
-      (seated_turns ghosts scene.members job place before after (λ before after. ghosts.lowers before (ghosts.capacity_is before) after) s (subst (λ n. ghosts.lowers before n after) whole lowered), are, refl);
+      (seated_turns ghosts scene.members job place before after (λ before after. ghosts.lowers before (ghosts.capacity_is before) after) s (subst (λ n. ghosts.lowers before n after) whole lowered) lasts, are, refl);
 }
 
 rewrites_retired : (old : Books) (job : ℕ) → IsBooks old → is_live old.live job ≡ true → Rewrites old (after_retire old job) job

@@ -9,12 +9,12 @@ use Rattle.vx_world.specs.Looks.{looks_of}
 use Rattle.vx_world.specs.Steps.{Step, Run, Ran}
 use Rattle.vx_world.proofs.Looking.{held_now, run_watched}
 
-run_more : {M L : Type 0} (ghosts : Ghosts M L) (old mid new : Scene M) (events : List Event) (replies : List Reply) (event : Event) (reply : Reply) → Run ghosts old events replies mid → Step ghosts mid event reply new → Run ghosts old (events ++ event ∷ []) (replies ++ reply ∷ []) new
-run_more {M} ghosts old mid new [] [] event reply r s = (new, (subst (λ (o : Scene M). Step ghosts o event reply new) r s, refl))
-run_more ghosts old mid new [] (first ∷ replies) event reply r s = absurd r
-run_more ghosts old mid new (first ∷ events) [] event reply r s = absurd r
-run_more ghosts old mid new (first ∷ events) (answer ∷ replies) event reply r s =
-    (r.0, (r.1.0, run_more ghosts r.0 mid new events replies event reply r.1.1 s))
+run_more : {M L : Type 0} (ghosts : Ghosts M L) (old mid new : Scene M) (events : List Event) (replies : List Reply) (event : Event) (reply : Reply) → Run ghosts old events replies mid → Step ghosts mid event reply new → IsWorld ghosts new → Run ghosts old (events ++ event ∷ []) (replies ++ reply ∷ []) new
+run_more {M} ghosts old mid new [] [] event reply r s w = (new, (subst (λ (o : Scene M). Step ghosts o event reply new) r s, w, refl))
+run_more ghosts old mid new [] (first ∷ replies) event reply r s w = absurd r
+run_more ghosts old mid new (first ∷ events) [] event reply r s w = absurd r
+run_more ghosts old mid new (first ∷ events) (answer ∷ replies) event reply r s w =
+    (r.0, (r.1.0, r.1.1, run_more ghosts r.0 mid new events replies event reply r.1.2 s w))
 
 -- the run of the first events, of which each has its reply
 pub record Goes {M L : Type 0} (ghosts : Ghosts M L) (old : Scene M) (events : List Event) (before : List Reply) (made : ℕ) (after : List Reply) (new : Scene M) : Type 0 where
@@ -26,14 +26,14 @@ pub record Goes {M L : Type 0} (ghosts : Ghosts M L) (old : Scene M) (events : L
 pub goes_none : {M L : Type 0} (ghosts : Ghosts M L) (old : Scene M) (events : List Event) (before : List Reply) → Goes ghosts old events before 0 before old
 goes_none ghosts old events before = record { gained = []; added = sym (append-nil before); count = refl; run = refl }
 
-pub goes_more : {M L : Type 0} (ghosts : Ghosts M L) (old mid new : Scene M) (events : List Event) (before after : List Reply) (made : ℕ) (event first : Event) (reply : Reply) → Goes ghosts old events before made after mid → made < length events → event ≡ get_or events made first → Step ghosts mid event reply new → Goes ghosts old events before (made + 1) (after ++ reply ∷ []) new
-goes_more ghosts old mid new events before after made event first reply g within is s =
+pub goes_more : {M L : Type 0} (ghosts : Ghosts M L) (old mid new : Scene M) (events : List Event) (before after : List Reply) (made : ℕ) (event first : Event) (reply : Reply) → Goes ghosts old events before made after mid → made < length events → event ≡ get_or events made first → Step ghosts mid event reply new → IsWorld ghosts new → Goes ghosts old events before (made + 1) (after ++ reply ∷ []) new
+goes_more ghosts old mid new events before after made event first reply g within is s w =
     let more : take (made + 1) events ≡ take made events ++ event ∷ [] = take_more events made first within ∙ ap (λ (e : Event). take made events ++ e ∷ []) (sym is) in
     record {
       gained = g.gained ++ reply ∷ [];
       added = ap (λ (l : List Reply). l ++ reply ∷ []) g.added ∙ append_assoc before g.gained (reply ∷ []);
       count = omega (arith, g.count, length-append g.gained (reply ∷ []));
-      run = rw more (run_more ghosts old mid new (take made events) g.gained event reply g.run s);
+      run = rw more (run_more ghosts old mid new (take made events) g.gained event reply g.run s w);
     }
 
 pub goes_ran : {M L : Type 0} (ghosts : Ghosts M L) (old new : Scene M) (events : List Event) (before after : List Reply) (made : ℕ) → Goes ghosts old events before made after new → Ran ghosts old events before after new

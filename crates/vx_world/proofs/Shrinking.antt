@@ -7,7 +7,7 @@ use Rattle.vx_arb.specs.Rows.{is_live, IsTied}
 use Rattle.vx_world.specs.declared.events.Event.TheVariants.{Shrink}
 use Rattle.vx_world.specs.declared.events.Reply.TheVariants.{Freed}
 use Rattle.vx_world.specs.Scenes.{Scene, IsWorld, Fits}
-use Rattle.vx_world.specs.Steps.{Step, Shrinks, OnAsked, is_lawful, is_running, on_request, may_shrink}
+use Rattle.vx_world.specs.Steps.{Step, Shrinks, Lasts, OnAsked, is_lawful, is_running, on_request, may_shrink}
 use Rattle.vx_world.proofs.Finding.{both}
 use Rattle.vx_world.proofs.Changes.{Seated, seated_job, seated_tied, seated_turns, rewrites_taken, world_changed, row_now, running_live, asked_passes, on_asked}
 
@@ -26,12 +26,12 @@ shrink_other {M} ghosts scene now is job place before request lawful s asked =
     let its : ghosts.job_is before ≡ job = seated_job ghosts scene.members job place before s in
     λ same. let equal : eqb job request.job ≡ true = grind (arith, nat_tests) in absurd (cc)
 
-pub shrink_made : {M L : Type 0} (ghosts : Ghosts M L) (scene now : Scene M) → scene ≡ now → (job place : ℕ) (before after : M) (request asked : Asked) (amount : ℕ) (books : Books) → IsTrue (is_lawful ghosts now (Shrink job)) → Seated ghosts scene.members job place before → scene.request ≡ Some request → amount ≡ share_of scene.books request (ghosts.unused_is before) → books ≡ after_shrink scene.books (ghosts.job_is before) amount → asked ≡ after_move request → ghosts.lowers before amount after → Step ghosts now (Shrink job) (Freed amount) (record { books = books; members = set scene.members place after; request = Some asked })
-shrink_made {M} ghosts scene now is job place before after request asked amount books lawful s req moved books_are asked_is lowered =
+pub shrink_made : {M L : Type 0} (ghosts : Ghosts M L) (scene now : Scene M) → scene ≡ now → (job place : ℕ) (before after : M) (request asked : Asked) (amount : ℕ) (books : Books) → IsTrue (is_lawful ghosts now (Shrink job)) → Seated ghosts scene.members job place before → scene.request ≡ Some request → amount ≡ share_of scene.books request (ghosts.unused_is before) → books ≡ after_shrink scene.books (ghosts.job_is before) amount → asked ≡ after_move request → ghosts.lowers before amount after → Lasts ghosts before after → Step ghosts now (Shrink job) (Freed amount) (record { books = books; members = set scene.members place after; request = Some asked })
+shrink_made {M} ghosts scene now is job place before after request asked amount books lawful s req moved books_are asked_is lowered lasts =
     let new : Scene M = record { books = books; members = set scene.members place after; request = Some asked } in
     let its : ghosts.job_is before ≡ job = seated_job ghosts scene.members job place before s in
     let shrinks : Shrinks ghosts scene request job amount new = record {
-      turns = seated_turns ghosts scene.members job place before after _ s (moved, lowered);
+      turns = seated_turns ghosts scene.members job place before after _ s (moved, lowered) lasts;
       books = books_are ∙ ap (λ n. after_shrink scene.books n amount) its;
       request_is = ap (λ (r : Asked). Some r) asked_is;
     } in

@@ -88,7 +88,7 @@ pub record Agrees {M L : Type 0} (ghosts : Ghosts M L) (old new : Scene M) (job 
   pub lives : (other : ℕ) → other ≢ job → is_live new.books.live other ≡ is_live old.books.live other
   pub stands : MatchOption new.request (new.books.standing ≡ None) (Stands new.books)
 
-by_job : (P : ℕ → Type 0) (job other : ℕ) → P job → (other ≢ job → P other) → P other
+pub by_job : (P : ℕ → Type 0) (job other : ℕ) → P job → (other ≢ job → P other) → P other
 by_job P job other same apart =
     elim (eqb other job) as (λ b. eqb other job ≡ b → P other) [
       | true ↦ λ e. let is : job ≡ other = grind (arith, nat_tests) in subst P is same

@@ -3,3 +3,5 @@ pub mod PlainRule
 pub mod Scenes
 pub mod Looks
 pub mod Steps
+pub mod WorldFields
+pub mod PlainFields

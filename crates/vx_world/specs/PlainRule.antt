@@ -1,5 +1,5 @@
 -- How a member that follows a script keeps its tree. No public clause cites this module.
-use Rattle.std.specs.Prelude.{◌≡◌, ℕ, ◌^◌, ◌≤◌, [], ◌∷◌, length, All}
+use Rattle.std.specs.Prelude.{◌≡◌, ◌^◌, ◌≤◌, [], ◌∷◌, length, All}
 use Rattle.vx_pool.specs.Pools.{Pools, IsTree, ahead_of}
 use Rattle.vx_world.specs.Plain.{Plain}
 
@@ -10,9 +10,8 @@ pub record IsSmall (pools : Pools) : Type 0 where
 
 -- a small tree in which nothing is ahead between two steps, and a script of numbers that a leaf may be
 -- asked for
-pub record IsPlain (unit : ℕ) (plain : Plain) : Type 0 where
+pub record IsPlain (plain : Plain) : Type 0 where
   pub small : IsSmall plain.pools
-  pub steps_by : plain.pools.unit ≡ unit
   pub settled : ahead_of plain.pools 1 ≡ 0
   pub fits : All (λ bytes. bytes ≤ 2 ^ 33) plain.script
   pub within : plain.next ≤ length plain.script

@@ -3,6 +3,8 @@ use Rattle.std.specs.Prelude.{◌≡◌, ℕ, ◌+◌, ◌==◌, ◌&&◌, Bool,
 use Rattle.std.specs.Option.{option_map_or}
 use Rattle.vx_arb.specs.declared.members.Member.{Ghosts}
 use Rattle.vx_arb.specs.declared.members.Lack.{Lack}
+use Rattle.vx_arb.specs.declared.members.Move.{Move}
+use Rattle.vx_arb.specs.Members.{is_end}
 use Rattle.vx_arb.specs.declared.entries.Look.{Look as Seen}
 use Rattle.vx_arb.specs.Books.{Books, Asked, IsReclaimed, after_admit, after_begin, request_for, after_shrink, after_reclaim, after_move, after_look, after_grant, after_abort, after_retire, share_of, moved_of, wanted_of, is_met, is_unmet, note_for}
 use Rattle.vx_arb.specs.Rows.{is_live}
@@ -10,7 +12,7 @@ use Rattle.vx_world.specs.declared.events.Event.{Event}
 use Rattle.vx_world.specs.declared.events.Event.TheVariants.{Admit, Batch, Begin, Shrink, Reclaim, Look, Grant, Abort, Drop, Want, Retire}
 use Rattle.vx_world.specs.declared.events.Reply.{Reply}
 use Rattle.vx_world.specs.declared.events.Reply.TheVariants.{Admitted, Stepped, Begun, NotLacking, Freed, Looked, Granted, Aborted, Dropped, Wanted, Retired}
-use Rattle.vx_world.specs.Scenes.{Scene, member_of, with_member}
+use Rattle.vx_world.specs.Scenes.{Scene, IsWorld, member_of, with_member}
 use Rattle.vx_world.specs.Looks.{looks_after, looks_of, Holds, Tells}
 
 -- a test of the member of a job, which fails where there is none
@@ -20,6 +22,10 @@ on_member ghosts scene job test = option_map_or test (member_of ghosts scene.mem
 -- a test of the request that stands, which fails where none does
 abbrev pub on_request : Option Asked → (Asked → Bool) → Bool
 on_request request test = option_map_or test request false
+
+-- the member of a job is there, and has ended
+abbrev pub HasEnded : {M L : Type 0} → Ghosts M L → Scene M → ℕ → Type 0
+HasEnded ghosts scene job = IsTrue (on_member ghosts scene job ghosts.ended_is)
 
 -- whether a job is live and its member there
 abbrev pub is_running : {M L : Type 0} → Ghosts M L → Scene M → ℕ → Bool
@@ -54,13 +60,25 @@ is_lawful ghosts scene (Retire job) =
     on_member ghosts scene job (λ member. is_live scene.books.live job && (ghosts.reserved_is member == 0))
     && not (on_request scene.request (λ request. request.job == job))
 
+-- a member is still of its job, and has ended where it had
+pub record Lasts {M L : Type 0} (ghosts : Ghosts M L) (before after : M) : Type 0 where
+  pub same : ghosts.job_is after ≡ ghosts.job_is before
+  pub over : IsTrue (ghosts.ended_is before) → IsTrue (ghosts.ended_is after)
+
 -- a member was there, and this became of it
 pub record Turns {M L : Type 0} (ghosts : Ghosts M L) (old : List M) (job : ℕ) (change : M → M → Type 0) (new : List M) : Type 0 where
   pub before : M
   pub after : M
   pub found : member_of ghosts old job ≡ Some before
   pub turned : change before after
+  pub lasts : Lasts ghosts before after
   pub members : new ≡ with_member ghosts old job after
+
+-- a step of a member, which answers whether it has ended since, and leaves one that had as it was
+pub record MakesMove {M L : Type 0} (ghosts : Ghosts M L) (hint : ℕ) (move : Move) (before after : M) : Type 0 where
+  pub stepped : ghosts.steps before hint move after
+  pub ended : is_end move ≡ ghosts.ended_is after
+  pub over : IsTrue (ghosts.ended_is before) → after ≡ before
 
 -- what the member of a job lacks under a hint
 abbrev pub Lacks : {M L : Type 0} → Ghosts M L → Scene M → ℕ → ℕ → Option Lack → Type 0
@@ -112,7 +130,7 @@ OnAsked request P = IsSomeAnd request P
 abbrev pub Makes : {M L : Type 0} → Ghosts M L → Scene M → Event → Reply → Scene M → Type 0
 Makes ghosts old (Admit job most) Admitted new = new ≡ record old { books = after_admit old.books job most }
 Makes ghosts old (Batch job hint) (Stepped move) new =
-    Turns ghosts old.members job (λ before after. ghosts.steps before hint move after) new.members
+    Turns ghosts old.members job (MakesMove ghosts hint move) new.members
     × (new.books ≡ old.books) × (new.request ≡ old.request)
 Makes ghosts old (Begin job hint) NotLacking new = Lacks ghosts old job hint None × (new ≡ old)
 Makes ghosts old (Begin job hint) Begun new = Begins ghosts old job hint new
@@ -139,13 +157,19 @@ pub record Step {M L : Type 0} (ghosts : Ghosts M L) (old : Scene M) (event : Ev
   pub lawful : IsTrue (is_lawful ghosts old event)
   pub makes : Makes ghosts old event reply new
 
--- a run: events made one after another, with their replies
+-- An event that may want memory: a lawful admission, or a lawful begin of a request.
+abbrev pub MayWant : {M L : Type 0} → Ghosts M L → Scene M → Event → Type 0
+MayWant ghosts scene (Admit job most) = IsTrue (is_lawful ghosts scene (Admit job most))
+MayWant ghosts scene (Begin job hint) = IsTrue (is_lawful ghosts scene (Begin job hint))
+MayWant ghosts scene event = ⊥
+
+-- a run: events made one after another, with their replies, each of which leaves a world that keeps its rule
 abbrev pub Run : {M L : Type 0} → Ghosts M L → Scene M → List Event → List Reply → Scene M → Type 0
 Run ghosts old [] [] new = new ≡ old
 Run ghosts old [] (reply ∷ replies) new = ⊥
 Run ghosts old (event ∷ events) [] new = ⊥
 Run {M} ghosts old (event ∷ events) (reply ∷ replies) new =
-    (mid : Scene M) × (Step ghosts old event reply mid × Run ghosts mid events replies new)
+    (mid : Scene M) × (Step ghosts old event reply mid × IsWorld ghosts mid × Run ghosts mid events replies new)
 
 -- A run in which each abort tells just the looks that were made since its request began, and each request
 -- that stands holds them. `looks` are those that were held before the run.
@@ -154,7 +178,7 @@ Watched ghosts looks old [] [] new = (new ≡ old) × Holds looks old.request
 Watched ghosts looks old [] (reply ∷ replies) new = ⊥
 Watched ghosts looks old (event ∷ events) [] new = ⊥
 Watched {M} ghosts looks old (event ∷ events) (reply ∷ replies) new =
-    (mid : Scene M) × (Step ghosts old event reply mid × Holds looks old.request × Tells looks old reply mid
+    (mid : Scene M) × (Step ghosts old event reply mid × IsWorld ghosts mid × Holds looks old.request × Tells looks old reply mid
     × Watched ghosts (looks_after ghosts old looks event reply) mid events replies new)
 
 -- what a run of some of the events left: as many were made as replies were added, in order

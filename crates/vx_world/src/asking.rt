@@ -6,19 +6,9 @@ ghost use Rattle.vx_arb.specs.Rows.{is_live};
 ghost use Rattle.vx_world.specs.Scenes.{member_of};
 ghost use Rattle.vx_world.specs.Steps.{on_request, may_shrink, may_reclaim};
 
-use crate::seats::{is_running, most_of};
+use crate::seats::is_running;
 use vx_account::Names;
 use vx_arb::{Arb, Member, Request};
-
-// Whether the requester's max allows what it would have, and that is free.
-pub fn is_met<L: Names>(arb: &Arb<L>, request: &Request) -> bool
-    ensures { result ≡ is_met arb.now request.now }
-{
-    if request.would() > most_of(arb.live(), request.job()) {
-        return false;
-    }
-    request.need() <= arb.free()
-}
 
 // Whether a request may shrink a job.
 fn shrinks(request: &Request, job: u32) -> bool
@@ -37,7 +27,7 @@ fn reclaims<L: Names>(arb: &Arb<L>, request: &Request) -> bool
     if request.left() == 0 {
         return false;
     }
-    !is_met(arb, request)
+    !arb.is_met(request)
 }
 
 // Whether a request can be granted.
@@ -45,10 +35,10 @@ fn grants<L: Names, M: Member<L> + Drop>(arb: &Arb<L>, members: &[M], request: &
     ensures { result ≡ (is_met arb.now request.now
         && option_map_or (λ member. is_live arb.now.live request.now.job) (member_of M.Member members.now request.now.job) false) }
 {
-    if !is_met(arb, request) {
+    if !arb.is_met(request) {
         return false;
     }
-    is_running(arb.live(), members, request.job())
+    is_running(arb, members, request.job())
 }
 
 pub fn can_shrink(request: &Option<Request>, job: u32) -> bool

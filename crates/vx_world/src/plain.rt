@@ -9,7 +9,7 @@ use std::alloc::{AllocError, Global};
 use std::marker::Model;
 use vx_account::Names;
 use vx_arb::{AbortNote, Lack, Member, Move};
-use vx_pool::{Share, Tree, quantum};
+use vx_pool::{Share, Tree};
 
 // The one leaf below the root.
 const LEAF: u32 = 1;
@@ -19,7 +19,6 @@ const LEAF: u32 = 1;
 #[derive(Drop)]
 pub struct PlainMember<L> {
     job: u32,
-    unit: u64,
     tree: Tree<L>,
     script: Vec<u64>,
     // The place of the next number.
@@ -33,25 +32,12 @@ impl<L> Model for PlainMember<L> {
 
     ghost Value = { Plain };
 
+    ghost use Rattle.vx_world.specs.PlainFields.{member_seen};
     ghost use Rattle.vx_world.specs.PlainRule.{IsPlain};
 
-    ghost view = { λ member. record {
-      job = member.job;
-      pools = member.tree;
-      script = member.script.items;
-      next = member.next;
-      soft = member.soft;
-      ended = member.ended;
-    } };
+    ghost view = { member_seen };
 
-    ghost invariant = { λ member. IsPlain member.unit (record {
-      job = member.job;
-      pools = member.tree;
-      script = member.script.items;
-      next = member.next;
-      soft = member.soft;
-      ended = member.ended;
-    }) };
+    ghost invariant = { λ member. IsPlain (member_seen member) };
 }
 
 // What the one leaf of a tree uses.
@@ -60,6 +46,15 @@ fn leaf_used<L: Names>(tree: &Tree<L>) -> u64
     ensures { result ≡ used_of tree.now 1 }
 {
     tree.used(LEAF)
+}
+
+// What the root would have reserved with so much ahead in the one leaf.
+fn leaf_would<L: Names>(tree: &Tree<L>, bytes: u64) -> u64
+    requires shape { tree.now.parents ≡ 0 ∷ [] }
+    requires small { bytes ≤ 2 ^ 33 }
+    ensures { result ≡ would_reserve tree.now 1 bytes }
+{
+    tree.would(LEAF, bytes)
 }
 
 // Makes the leaf use so much, which is reserved.
@@ -114,7 +109,6 @@ impl<L: Names> PlainMember<L> {
     {
         Ok(PlainMember {
             job,
-            unit,
             tree: Tree::new(alloc, unit, &[0])?,
             script: script.to_vec(alloc)?,
             next: 0,
@@ -128,8 +122,7 @@ impl<L: Names> PlainMember<L> {
         requires { self.now.next < length self.now.script }
         ensures { result ≡ would_at self.now }
     {
-        let bytes = self.script[self.next];
-        quantum(self.unit, leaf_used(&self.tree).max(bytes))
+        leaf_would(&self.tree, self.script[self.next])
     }
 
     // Makes the leaf use the next number of the script.

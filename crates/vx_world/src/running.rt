@@ -1,7 +1,7 @@
 //! A world: an arbitrator, its members, and at most one request.
-ghost use Rattle.std.specs.Prelude.{◌≡◌, ◌≤◌, ◌↔◌, ◌==◌, ℕ, None, [], false, ◌&&◌, ◌+◌, ◌-◌, length, vec_len, slice_get, IsSomeAnd, IsTrue, IfOk, IfErr, OnOk, OnErr, sum_by, count_by};
+ghost use Rattle.std.specs.Prelude.{◌≡◌, ◌≤◌, ◌↔◌, ◌⊎◌, ◌==◌, ℕ, None, [], false, ◌&&◌, ◌+◌, ◌-◌, length, vec_len, slice_get, IsSomeAnd, IsTrue, IfOk, IfErr, OnOk, OnErr, sum_by, count_by};
 ghost use Rattle.vx_world.specs.Scenes.{IsWorld};
-ghost use Rattle.vx_world.specs.Steps.{Step, Ran, is_lawful};
+ghost use Rattle.vx_world.specs.Steps.{Step, Ran, MayWant, is_lawful};
 
 use crate::asking::{can_abort, can_grant, can_reclaim, can_shrink, is_asking};
 use crate::seats::{all_fit, is_going, is_leaving, is_running, is_there, is_waiting, seat_in};
@@ -24,18 +24,11 @@ impl<L: Names, M: Member<L> + Drop> Model for World<L, M> {
     ghost Value = { Scene M };
 
     ghost use Rattle.vx_world.specs.Scenes.{IsWorld};
+    ghost use Rattle.vx_world.specs.WorldFields.{scene_of};
 
-    ghost view = { λ world. record {
-      books = world.arb;
-      members = world.members.items;
-      request = world.request;
-    } };
+    ghost view = { scene_of };
 
-    ghost invariant = { λ world. IsWorld M.Member (record {
-      books = world.arb;
-      members = world.members.items;
-      request = world.request;
-    }) };
+    ghost invariant = { λ world. IsWorld M.Member (scene_of world) };
 }
 
 impl<L: Names, M: Member<L> + Drop> World<L, M> {
@@ -62,23 +55,22 @@ impl<L: Names, M: Member<L> + Drop> World<L, M> {
         ensures value { result ≡ is_lawful M.Member self.now event }
         ensures rule { IsWorld M.Member self.now }
     {
-        let live = self.arb.live();
         match event {
             Event::Admit { job, max: _ } => {
-                is_waiting(live, &self.members, job) && self.request.is_none()
+                is_waiting(&self.arb, &self.members, job) && self.request.is_none()
             }
             Event::Batch { job, hint: _ } => is_there(&self.members, job),
             Event::Begin { job, hint: _ } => {
-                is_running(live, &self.members, job) && self.request.is_none()
+                is_running(&self.arb, &self.members, job) && self.request.is_none()
             }
             Event::Shrink { job } => {
-                is_running(live, &self.members, job) && can_shrink(&self.request, job)
+                is_running(&self.arb, &self.members, job) && can_shrink(&self.request, job)
             }
             Event::Reclaim { job } => {
-                is_running(live, &self.members, job) && can_reclaim(&self.arb, &self.request)
+                is_running(&self.arb, &self.members, job) && can_reclaim(&self.arb, &self.request)
             }
             Event::Look { job } => {
-                is_running(live, &self.members, job) && self.request.is_some()
+                is_running(&self.arb, &self.members, job) && self.request.is_some()
             }
             Event::Grant => can_grant(&self.arb, &self.members, &self.request),
             Event::Abort { job } => {
@@ -87,7 +79,7 @@ impl<L: Names, M: Member<L> + Drop> World<L, M> {
             Event::Drop => self.request.is_some(),
             Event::Want { job } => is_going(&self.members, job),
             Event::Retire { job } => {
-                is_leaving(live, &self.members, job) && !is_asking(&self.request, job)
+                is_leaving(&self.arb, &self.members, job) && !is_asking(&self.request, job)
             }
         }
     }
@@ -96,8 +88,10 @@ impl<L: Names, M: Member<L> + Drop> World<L, M> {
     pub fn apply(&mut self, event: Event) -> Result<Reply, ApplyError>
         ensures step { IfOk result (λ reply. Step M.Member self.old event reply self.new) }
 
-        // Refused exactly where it isn't lawful, and after any error nothing has changed.
+        // Refused exactly where it isn't lawful; want of memory is of a lawful admission or begin alone. After
+        // any error nothing has changed.
         ensures refused { (result ≡ Err ApplyError.Refused) ↔ (is_lawful M.Member self.old event ≡ false) }
+        ensures memory { result ≡ Err ApplyError.NoMemory → MayWant M.Member self.old event }
         ensures err { OnErr result (self.new ≡ self.old) }
         ensures rule { IsWorld M.Member self.new }
     {
@@ -132,6 +126,11 @@ impl<L: Names, M: Member<L> + Drop> World<L, M> {
         ensures refused { result ≡ Err ApplyError.Refused → IsSomeAnd
             (slice_get events.now (vec_len replies.new - vec_len replies.old))
             (λ event. is_lawful M.Member self.new event ≡ false) }
+
+        // Want of memory comes before any event, or at one that may want it there.
+        ensures memory { result ≡ Err ApplyError.NoMemory →
+            (vec_len replies.new ≡ vec_len replies.old) ⊎ IsSomeAnd
+            (slice_get events.now (vec_len replies.new - vec_len replies.old)) (MayWant M.Member self.new) }
         ensures rule { IsWorld M.Member self.new }
     {
         let _arb = self.arb();

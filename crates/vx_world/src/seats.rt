@@ -1,11 +1,11 @@
 //! Where the member of a job stands, and what is said of a job by its row and its member.
 ghost use Rattle.std.specs.Prelude.{◌≡◌, ◌==◌, ◌&&◌, ◌<◌, true, false, not, Some, IsSome, All, length, position};
 ghost use Rattle.std.specs.Option.{option_map_or};
-ghost use Rattle.vx_arb.specs.Rows.{is_live, max_in};
+ghost use Rattle.vx_arb.specs.Rows.{is_live};
 ghost use Rattle.vx_world.specs.Scenes.{Fits, member_of};
 
 use vx_account::Names;
-use vx_arb::{Live, Member};
+use vx_arb::{Arb, Member};
 
 // Asks each member for its capacity: the call says that no more is reserved.
 pub fn all_fit<L: Names, M: Member<L> + Drop>(members: &[M])
@@ -37,30 +37,6 @@ pub fn seat_in<L: Names, M: Member<L> + Drop>(members: &[M], job: u32) -> usize
     seat_of(members, job).unwrap()
 }
 
-// Whether a job has a row.
-pub fn has_row(live: &[Live], job: u32) -> bool
-    ensures { result ≡ is_live live.now job }
-{
-    live.iter().any(|row| row.job == job)
-}
-
-// Where the row of a job stands.
-fn row_of(live: &[Live], job: u32) -> Option<usize>
-    ensures { result ≡ position (λ (row : Live). row.job == job) live.now }
-{
-    live.iter().position(|row| row.job == job)
-}
-
-// The max of a live job.
-pub fn most_of(live: &[Live], job: u32) -> u64
-    ensures { result ≡ max_in live.now job }
-{
-    match row_of(live, job) {
-        Some(place) => live[place].max,
-        None => 0,
-    }
-}
-
 // Whether the member of a job is there.
 pub fn is_there<L: Names, M: Member<L> + Drop>(members: &[M], job: u32) -> bool
     ensures { result ≡ option_map_or (λ member. true) (member_of M.Member members.now job) false }
@@ -89,30 +65,30 @@ pub fn is_idle<L: Names, M: Member<L> + Drop>(members: &[M], job: u32) -> bool
 }
 
 // Whether a job is live and its member there.
-pub fn is_running<L: Names, M: Member<L> + Drop>(live: &[Live], members: &[M], job: u32) -> bool
-    ensures { result ≡ option_map_or (λ member. is_live live.now job) (member_of M.Member members.now job) false }
+pub fn is_running<L: Names, M: Member<L> + Drop>(arb: &Arb<L>, members: &[M], job: u32) -> bool
+    ensures { result ≡ option_map_or (λ member. is_live arb.now.live job) (member_of M.Member members.now job) false }
 {
-    if !has_row(live, job) {
+    if !arb.is_live(job) {
         return false;
     }
     is_there(members, job)
 }
 
 // Whether the member of a job is there and the job not live.
-pub fn is_waiting<L: Names, M: Member<L> + Drop>(live: &[Live], members: &[M], job: u32) -> bool
-    ensures { result ≡ option_map_or (λ member. not (is_live live.now job)) (member_of M.Member members.now job) false }
+pub fn is_waiting<L: Names, M: Member<L> + Drop>(arb: &Arb<L>, members: &[M], job: u32) -> bool
+    ensures { result ≡ option_map_or (λ member. not (is_live arb.now.live job)) (member_of M.Member members.now job) false }
 {
-    if has_row(live, job) {
+    if arb.is_live(job) {
         return false;
     }
     is_there(members, job)
 }
 
 // Whether a job is live and its member has nothing reserved.
-pub fn is_leaving<L: Names, M: Member<L> + Drop>(live: &[Live], members: &[M], job: u32) -> bool
-    ensures { result ≡ option_map_or (λ member. is_live live.now job && (M.reserved_is member == 0)) (member_of M.Member members.now job) false }
+pub fn is_leaving<L: Names, M: Member<L> + Drop>(arb: &Arb<L>, members: &[M], job: u32) -> bool
+    ensures { result ≡ option_map_or (λ member. is_live arb.now.live job && (M.reserved_is member == 0)) (member_of M.Member members.now job) false }
 {
-    if !has_row(live, job) {
+    if !arb.is_live(job) {
         return false;
     }
     is_idle(members, job)

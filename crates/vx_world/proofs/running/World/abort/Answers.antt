@@ -28,7 +28,8 @@ pub returns-clause-step : goal.returns-clause-step
 returns-clause-step g c =
     rw c.take.ensures.after (abort_made g.M.Member _ c.args.self.now c.self.view_is c.args.job c.seat_in-place.result c.index_mut.result.now c.abort.new.victim c.unwrap-request.result c.abort.result c.abort.new.self c.requires
     (seated g.M.Member c.self.inside.members.items c.deref.result.now c.args.job c.seat_in-place.result c.index_mut.result.now c.deref.ensures.value c.seat_in-place.ensures.place c.index_mut.ensures.value) (sym c.take.ensures.value ∙ c.unwrap-request.ensures)
-    c.abort.ensures.note c.abort.ensures.books c.abort.ensures.member)
+    c.abort.ensures.note c.abort.ensures.books c.abort.ensures.member
+    (record { same = c.abort.ensures.job; over = λ _. c.abort.ensures.ended }))
 
 pub returns-clause-rule : goal.returns-clause-rule
 returns-clause-rule g c = invariant_of-self g c

@@ -19,7 +19,7 @@ push_reserved-requires g c = omega (arith, c.loop-event.invariant.fits, c.loop-e
 
 pub loop-event-preserved : goal.loop-event-preserved
 loop-event-preserved g c = record {
-  goes = rw c.push_reserved.ensures.items (goes_more g.M.Member c.args.self.now c.loop-event.self c.apply.new.self c.args.events.now c.args.replies.now.items c.loop-event.replies.items c.loop-event.event-index _ _ c.in_ok-reply.reply c.loop-event.invariant.goes c.loop-event-test.true refl c.in_ok-reply.ensures.step);
+  goes = rw c.push_reserved.ensures.items (goes_more g.M.Member c.args.self.now c.loop-event.self c.apply.new.self c.args.events.now c.args.replies.now.items c.loop-event.replies.items c.loop-event.event-index _ _ c.in_ok-reply.reply c.loop-event.invariant.goes c.loop-event-test.true refl c.in_ok-reply.ensures.step c.apply.ensures.rule);
   world = c.apply.ensures.rule;
   full = omega (arith, c.loop-event.invariant.full, c.push_reserved.ensures.len);
   fits = omega (arith, c.loop-event.invariant.fits, c.push_reserved.ensures.len, c.push_reserved.ensures.capacity);

@@ -25,7 +25,8 @@ returns-clause-step g c =
     rw c.take.ensures.after (grant_made g.M.Member _ c.args.self.now c.self.view_is c.unwrap-request.result c.seat_in-place.result c.index_mut.result.now c.grant-granted.new.member c.grant-granted.new.self c.requires
     (subst (λ n. Seated g.M.Member c.self.inside.members.items n c.seat_in-place.result c.index_mut.result.now) c.job.ensures (seated g.M.Member c.self.inside.members.items c.deref.result.now c.job.result c.seat_in-place.result c.index_mut.result.now c.deref.ensures.value c.seat_in-place.ensures.place c.index_mut.ensures.value)) (sym c.take.ensures.value ∙ c.unwrap-request.ensures)
     (made_ok c.grant-granted.result _ (sym c.is_ok.ensures.value ∙ c.if-prove.false) c.grant-granted.ensures.books)
-    (made_ok c.grant-granted.result _ (sym c.is_ok.ensures.value ∙ c.if-prove.false) c.grant-granted.ensures.member))
+    (made_ok c.grant-granted.result _ (sym c.is_ok.ensures.value ∙ c.if-prove.false) c.grant-granted.ensures.member)
+    (record { same = c.grant-granted.ensures.job; over = λ ended. c.grant-granted.ensures.ended ∙ ended }))
 
 pub returns-clause-rule : goal.returns-clause-rule
 returns-clause-rule g c = invariant_of-self g c

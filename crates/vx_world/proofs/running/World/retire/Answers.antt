@@ -25,7 +25,8 @@ pub returns-clause-step : goal.returns-clause-step
 returns-clause-step g c =
     retire_made g.M.Member _ c.args.self.now c.self.view_is c.args.job c.seat_in-place.result c.capacity.result c.index_mut-member.result.now c.lower-share.new.self c.retire.new.self c.requires
     (seated g.M.Member c.self.inside.members.items c.deref.result.now c.args.job c.seat_in-place.result c.index_mut-member.result.now c.deref.ensures.value c.seat_in-place.ensures.place c.index_mut-member.ensures.value)
-    c.capacity.ensures.value c.lower-share.ensures.lower c.retire.ensures.books
+    c.capacity.ensures.value c.lower-share.ensures.lower
+    (record { same = c.lower-share.ensures.job; over = λ ended. c.lower-share.ensures.ended ∙ ended }) c.retire.ensures.books
 
 pub returns-clause-rule : goal.returns-clause-rule
 returns-clause-rule g c = invariant_of-self g c

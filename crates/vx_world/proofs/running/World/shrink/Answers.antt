@@ -24,6 +24,7 @@ returns-clause-step g c =
     shrink_made g.M.Member _ c.args.self.now c.self.view_is c.args.job c.seat_in-place.result c.index_mut.result.now c.shrink-freed.new.member c.unwrap-request.result c.shrink-freed.new.request c.shrink-freed.result c.shrink-freed.new.self c.requires
     (seated g.M.Member c.self.inside.members.items c.deref.result.now c.args.job c.seat_in-place.result c.index_mut.result.now c.deref.ensures.value c.seat_in-place.ensures.place c.index_mut.ensures.value) (sym c.take.ensures.value ∙ c.unwrap-request.ensures)
     c.shrink-freed.ensures.moved c.shrink-freed.ensures.books c.shrink-freed.ensures.request c.shrink-freed.ensures.member
+    (record { same = c.shrink-freed.ensures.job; over = λ ended. c.shrink-freed.ensures.ended ∙ ended })
 
 pub returns-clause-rule : goal.returns-clause-rule
 returns-clause-rule g c = invariant_of-self g c

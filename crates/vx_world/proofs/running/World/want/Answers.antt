@@ -17,7 +17,7 @@ pub returns-clause-step : goal.returns-clause-step
 returns-clause-step g c =
     want_made g.M.Member _ c.args.self.now c.self.view_is c.args.job c.seat_in-place.result c.index_mut.result.now c.want.new.self c.requires
     (seated g.M.Member c.self.inside.members.items c.deref.result.now c.args.job c.seat_in-place.result c.index_mut.result.now c.deref.ensures.value c.seat_in-place.ensures.place c.index_mut.ensures.value)
-    c.want.ensures.want
+    c.want.ensures.want (record { same = c.want.ensures.job; over = λ _. c.want.ensures.ended })
 
 pub returns-clause-rule : goal.returns-clause-rule
 returns-clause-rule g c = invariant_of-self g c

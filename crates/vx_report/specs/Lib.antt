@@ -1,0 +1,5 @@
+pub mod Ascending
+pub mod Logs
+pub mod Notes
+pub mod Sections
+pub mod Stats

@@ -95,8 +95,8 @@ impl<F: Files + Copy + Send + Drop, O: io::Write, E: io::Write> Host for RealHos
     }
 
     fn store(&mut self, job: u32) -> Result<FolderStore<F>, AllocError>
-        ensures fresh { IfOk result (λ store. IsFreshStore (folder_view store.faults)) }
-        ensures unfailing { false ≡ true → IfOk result (λ store. IsSafeStore (folder_view store.faults)) }
+        ensures fresh { IfOk result (λ store. IsFreshStore (folder_view store.next store.faults)) }
+        ensures unfailing { false ≡ true → IfOk result (λ store. IsSafeStore (folder_view store.next store.faults)) }
         ensures files { real_files self.new ≡ real_files self.old }
         ensures sinks { (to : Place) → real_sink self.new to ≡ real_sink self.old to }
         ensures stores { false ≡ true → false ≡ true }

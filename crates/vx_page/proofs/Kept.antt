@@ -111,6 +111,15 @@ seals_stay before after m at_m others n k s e =
       | inr other ↦ rw (others n other) e
     ]
 
+-- what stays for one file and for each other stays for all
+pub seals_all : (before after : List (List Seal)) (m : ℕ) → seals_of after m ≡ seals_of before m → ((n : ℕ) → ¬ (n ≡ m) → seals_of after n ≡ seals_of before n)
+    → (n : ℕ) → ¬ ⊥ → seals_of after n ≡ seals_of before n
+seals_all before after m at_m others n any =
+    elim (cases_eq n m) [
+      | inl same ↦ subst (λ (i : ℕ). seals_of after i ≡ seals_of before i) (sym same) at_m
+      | inr other ↦ others n other
+    ]
+
 pub keeps_all : (now before after new : SealedView) (m : ℕ) (more : List ℕ) → before ≡ now → new ≡ after → Told (AppendsFront m more) before.store.files after.store.files
     → ((n k : ℕ) (s : Seal) → slice_get (seals_of before.kept n) k ≡ Some s → slice_get (seals_of after.kept n) k ≡ Some s)
     → (n k : ℕ) (shape : List Slot) (rows : List Cells) → ¬ ⊥ → HasPage now n k shape rows → HasPage new n k shape rows

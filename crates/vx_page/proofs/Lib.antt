@@ -6,3 +6,4 @@ pub mod Steps
 pub mod Texts
 pub mod SealLaws
 pub mod Kept
+pub mod Lengths

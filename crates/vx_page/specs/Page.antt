@@ -1,9 +1,10 @@
 -- What stands on a page: the number of rows, the length of the body, and the body: the rows' cells one after
 -- another. Numbers stand with their highest byte first.
-use Rattle.std.specs.Prelude.{◌≡◌, ◌<◌, ◌^◌, ℕ, if◌then◌else◌, List, [], ◌∷◌, ◌++◌, length, All, IfSome, ⊤, FitsSigned}
+use Rattle.std.specs.Prelude.{◌≡◌, ◌<◌, ◌^◌, ◌+◌, ℕ, if◌then◌else◌, List, [], ◌∷◌, ◌++◌, length, All, IfSome, ⊤, FitsSigned}
 use Rattle.std.specs.List.{flat_map}
 use Rattle.std.specs.Int.{cast_unsigned, bytes_high_first, w128}
 use Rattle.vx_value.specs.declared.value.Kind.{Kind}
+use Rattle.vx_value.specs.declared.value.Kind.TheVariants as kind
 use Rattle.vx_value.specs.declared.value.Value.{Value}
 use Rattle.vx_value.specs.Value.{kind_of, IsLawful}
 use Rattle.vx_value.specs.KeyBytes.{value_bytes}
@@ -49,6 +50,23 @@ FitsSlot (slot.Value kind) (cell.Wide n) = ⊥
 FitsSlot slot.Wide (cell.Flag b) = ⊥
 FitsSlot slot.Wide (cell.Value v) = ⊥
 FitsSlot slot.Wide (cell.Wide n) = ⊤
+
+-- the most bytes that a value of a kind has: a text has at most 65,535, behind its tag and two of length
+abbrev pub most_of_kind : Kind → ℕ
+most_of_kind kind.Bool = 2
+most_of_kind kind.Int = 9
+most_of_kind kind.Text = 65538
+
+-- the most bytes that a cell in the slot has
+abbrev pub most_of : Slot → ℕ
+most_of slot.Flag = 1
+most_of (slot.Value kind) = most_of_kind kind
+most_of slot.Wide = 17
+
+-- the most bytes that a row of the shape has
+abbrev pub most_of_row : List Slot → ℕ
+most_of_row [] = 0
+most_of_row (slot ∷ shape) = most_of slot + most_of_row shape
 
 -- the lists are equally long, and what they have at a place is related
 abbrev pub Pairs : {A B : Type 0} → (A → B → Type 0) → List A → List B → Type 0

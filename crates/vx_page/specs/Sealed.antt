@@ -1,5 +1,5 @@
 -- A sealed store, as contracts see it: what it keeps of each page, and which rows stand there.
-use Rattle.std.specs.Prelude.{◌≡◌, ℕ, ◌+◌, ◌-◌, ◌^◌, min, List, [], length, map, Vec, Option, Some, None, slice_get, slice_index_or, Result, Ok, Err, ⊤}
+use Rattle.std.specs.Prelude.{◌≡◌, ℕ, ◌+◌, ◌-◌, ◌^◌, ◌≤◌, min, List, [], ◌∷◌, ◌++◌, length, map, Vec, Option, Some, None, slice_get, slice_index_or, Result, Ok, Err, ⊤}
 use Rattle.std.specs.declared.alloc.Global.{Global}
 use Rattle.vx_value.specs.Hash.{hash_of}
 use Rattle.vx_store.specs.Views.{StoreView}
@@ -17,6 +17,10 @@ pub record SealedView : Type 0 where
   pub faults : ℕ
   pub appended : ℕ
   pub kept : List (List Seal)
+
+-- a sealed store as a store: its files are those of the store inside, and its faults its own
+abbrev pub as_store : SealedView → StoreView
+as_store v = record v.store { faults = v.faults }
 
 -- nothing was called yet
 abbrev pub fresh : StoreView → SealedView
@@ -56,6 +60,20 @@ IsPage v n k shape = (rows : List Cells) × HasPage v n k shape rows
 abbrev pub KeepsPages : (ℕ → Type 0) → SealedView → SealedView → Type 0
 KeepsPages But before after =
     (n k : ℕ) (shape : List Slot) (rows : List Cells) → ¬ But n → HasPage before n k shape rows → HasPage after n k shape rows
+
+-- each file has the seals that it had, but those that `But` names
+abbrev pub KeepsSeals : (ℕ → Type 0) → SealedView → SealedView → Type 0
+KeepsSeals But before after = (n : ℕ) → ¬ But n → seals_of after.kept n ≡ seals_of before.kept n
+
+-- the file of this number has one seal more, behind those that it had, and each other what it had
+pub record AddsSeal (n : ℕ) (before after : SealedView) : Type 0 where
+  pub seal : Seal
+  pub file : seals_of after.kept n ≡ seals_of before.kept n ++ seal ∷ []
+  pub others : KeepsSeals (λ k. k ≡ n) before after
+
+-- no file that is still to be created has a seal
+abbrev pub IsClear : SealedView → Type 0
+IsClear v = (n : ℕ) → v.store.created ≤ n → seals_of v.kept n ≡ []
 
 -- an appended page's bytes are counted, up to the last u64
 abbrev pub appended_after : {T : Type 0} → ℕ → ℕ → Result T StoreError → ℕ

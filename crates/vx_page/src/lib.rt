@@ -15,4 +15,4 @@ pub use cell::{Cell, PageRow, Slot};
 pub use error::PageError;
 pub use reading::read_page;
 pub use sealed::Sealed;
-pub use writing::write_page;
+pub use writing::{row_len, value_len, write_page};

@@ -1,8 +1,10 @@
-ghost use Rattle.std.specs.Prelude.{◌≡◌, ◌<◌, ◌≤◌, ◌^◌, ◌⊎◌, List, All, length, None, IfSome, IfOk, OnOk, OnErr, IsErrOf};
-ghost use Rattle.vx_base.specs.Causes.{HasCause, Rose};
-ghost use Rattle.vx_store.specs.Store.{IsThere, Stays, Creates, AppendsSome, Removes, MayRemove, KeepsThere, StaysUnfailing, FailsOnly, faults_after, faults_with};
+ghost use Rattle.std.specs.Prelude.{◌≡◌, ◌<◌, ◌≤◌, ◌^◌, ◌⊎◌, [], List, All, length, None, IfSome, IfOk, IfErr, OnOk, OnErr, IsErrOf};
+ghost use Rattle.vx_base.specs.Causes.{Rose};
+ghost use Rattle.vx_value.specs.Hash.{hash_of};
+ghost use Rattle.vx_store.specs.Script.{counted};
+ghost use Rattle.vx_store.specs.Store.{IsThere, Stays, Creates, AppendsSome, Removes, MayRemove, Goes, Keeps, created_after, faults_after, faults_with};
 ghost use Rattle.vx_page.specs.Page.{Cells, HasShape, body, page, IsPageOf};
-ghost use Rattle.vx_page.specs.Sealed.{fresh, pages_of, Agrees, HasPage, IsPage, KeepsPages, appended_after, IsUntold};
+ghost use Rattle.vx_page.specs.Sealed.{as_store, fresh, seals_of, pages_of, Agrees, HasPage, IsPage, KeepsPages, KeepsSeals, AddsSeal, IsClear, appended_after, IsUntold};
 
 use crate::cell::{PageRow, Slot};
 use crate::error::PageError;
@@ -76,16 +78,16 @@ impl<S: Store + Drop> Sealed<S> {
         ensures ok { IfOk result (λ file. Creates self.old.store.files self.new.store.files file.0) }
         ensures err { OnErr result (Stays self.old.store.files self.new.store.files) }
         ensures ready { IfOk result (λ file. IsThere self.new.store.files file.0) }
+        ensures number { IfOk result (λ file. file.0 ≡ self.old.store.created) }
+        ensures created { self.new.store.created ≡ created_after self.old.store.created result }
+        ensures empty { IsClear self.old → IfOk result (λ file. seals_of self.new.kept file.0 ≡ []) }
 
         // What stays as it was, and when it fails.
-        ensures there { KeepsThere (λ _. ⊥) self.old.store.files self.new.store.files }
-        ensures keeps { KeepsPages (λ _. ⊥) self.old self.new }
+        ensures keeps { Keeps (λ _. ⊥) ⊥ (as_store self.old) (as_store self.new) result }
+        ensures pages { KeepsPages (λ _. ⊥) self.old self.new }
+        ensures seals { KeepsSeals (λ _. ⊥) self.old self.new }
         ensures appended { self.new.appended ≡ self.old.appended }
-        ensures count { self.new.faults ≡ faults_after self.old.faults result }
-        ensures cause { HasCause (λ e. e ≡ StoreError.Failed) self.old.faults self.new.faults result }
         ensures inner { self.new.store.faults ≡ faults_after self.old.store.faults result }
-        ensures unfailing { StaysUnfailing self.old.store self.new.store }
-        ensures failed { FailsOnly self.old.store result ⊥ }
     {
         match self.inner.create() {
             Ok(file) => Ok(file),
@@ -107,17 +109,16 @@ impl<S: Store + Drop> Sealed<S> {
         requires body { length (body rows.now) < 2 ^ 32 }
         ensures ok { IfOk result (λ number. HasPage self.new file.0 number shape.now rows.now) }
         ensures number { IfOk result (λ number. number ≡ pages_of self.old.kept file.0) }
+        ensures adds { OnOk result (AddsSeal file.0 self.old self.new) }
+        ensures err { OnErr result (KeepsSeals (λ _. ⊥) self.old self.new) }
         ensures grows { AppendsSome self.old.store.files self.new.store.files file.0 (page rows.now) }
 
         // What stays as it was, and when it fails.
-        ensures there { KeepsThere (λ _. ⊥) self.old.store.files self.new.store.files }
-        ensures keeps { KeepsPages (λ _. ⊥) self.old self.new }
+        ensures keeps { Keeps (λ _. ⊥) ⊥ (as_store self.old) (as_store self.new) result }
+        ensures pages { KeepsPages (λ _. ⊥) self.old self.new }
+        ensures created { self.new.store.created ≡ self.old.store.created }
         ensures appended { self.new.appended ≡ appended_after self.old.appended (length (page rows.now)) result }
-        ensures count { self.new.faults ≡ faults_after self.old.faults result }
-        ensures cause { HasCause (λ e. e ≡ StoreError.Failed) self.old.faults self.new.faults result }
         ensures inner { self.new.store.faults ≡ faults_after self.old.store.faults result }
-        ensures unfailing { StaysUnfailing self.old.store self.new.store }
-        ensures failed { FailsOnly self.old.store result ⊥ }
     {
         let bytes = write_page(self.alloc, rows, shape)?;
         let written = bytes.as_slice();
@@ -151,15 +152,13 @@ impl<S: Store + Drop> Sealed<S> {
         ensures ok { IfOk result (λ rows. HasPage self.old file.0 number shape.now rows.items) }
 
         // What stays as it was, and when it fails: never by the page's content where that is told.
-        ensures there { KeepsThere (λ _. ⊥) self.old.store.files self.new.store.files }
-        ensures keeps { KeepsPages (λ _. ⊥) self.old self.new }
+        ensures keeps { Keeps (λ _. ⊥) (IsUntold self.old.store.files) (as_store self.old) (as_store self.new) result }
+        ensures pages { KeepsPages (λ _. ⊥) self.old self.new }
+        ensures seals { KeepsSeals (λ _. ⊥) self.old self.new }
+        ensures created { self.new.store.created ≡ self.old.store.created }
         ensures appended { self.new.appended ≡ self.old.appended }
-        ensures count { self.new.faults ≡ faults_after self.old.faults result }
-        ensures cause { HasCause (λ e. e ≡ StoreError.Failed) self.old.faults self.new.faults result }
         ensures inner { IsErrOf result StoreError.Failed → Rose self.old.store.faults self.new.store.faults ⊎ IsUntold self.old.store.files }
         ensures fine { (IsErrOf result StoreError.Failed → ⊥) → self.new.store.faults ≡ self.old.store.faults }
-        ensures unfailing { StaysUnfailing self.old.store self.new.store }
-        ensures failed { FailsOnly self.old.store result (IsUntold self.old.store.files) }
     {
         let seal = seal_of(&self.seals, file.0, number);
         if let Err(error) = self.inner.read(file, seal.at, seal.len, &mut self.buffer) {
@@ -171,30 +170,37 @@ impl<S: Store + Drop> Sealed<S> {
         }
     }
 
-    /// Takes the file away, and its pages. After `Failed` it may be there or not.
+    /// Takes the file away, and its pages. After `Failed` it may be there or not, without pages; want of
+    /// memory leaves both.
     pub fn remove(&mut self, file: FileNo) -> Result<(), StoreError>
         requires { IsThere self.old.store.files file.0 }
         ensures ok { OnOk result (Removes self.old.store.files self.new.store.files file.0) }
-        ensures err { OnErr result (MayRemove self.old.store.files self.new.store.files file.0) }
+        ensures err { IfErr result (MayRemove self.old.store.files self.new.store.files file.0) }
+        ensures none { Goes file.0 result file.0 → seals_of self.new.kept file.0 ≡ [] }
 
         // What stays as it was, and when it fails.
-        ensures there { KeepsThere (λ n. n ≡ file.0) self.old.store.files self.new.store.files }
-        ensures keeps { KeepsPages (λ n. n ≡ file.0) self.old self.new }
+        ensures keeps { Keeps (Goes file.0 result) ⊥ (as_store self.old) (as_store self.new) result }
+        ensures pages { KeepsPages (Goes file.0 result) self.old self.new }
+        ensures seals { KeepsSeals (Goes file.0 result) self.old self.new }
+        ensures created { self.new.store.created ≡ self.old.store.created }
         ensures appended { self.new.appended ≡ self.old.appended }
-        ensures count { self.new.faults ≡ faults_after self.old.faults result }
-        ensures cause { HasCause (λ e. e ≡ StoreError.Failed) self.old.faults self.new.faults result }
         ensures inner { self.new.store.faults ≡ faults_after self.old.store.faults result }
-        ensures unfailing { StaysUnfailing self.old.store self.new.store }
-        ensures failed { FailsOnly self.old.store result ⊥ }
     {
-        forget(&mut self.seals, file.0);
         match self.inner.remove(file) {
-            Ok(()) => Ok(()),
-            Err(error) => Err(self.noted(error)),
+            Ok(()) => {
+                forget(&mut self.seals, file.0);
+                Ok(())
+            }
+            Err(StoreError::NoMemory) => Err(StoreError::NoMemory),
+            Err(StoreError::Failed) => {
+                forget(&mut self.seals, file.0);
+                self.note_fault();
+                Err(StoreError::Failed)
+            }
         }
     }
 
-    /// Counts a fault.
+    /// Counts an error that is a fault, and hands it on.
     fn noted(&mut self, error: StoreError) -> StoreError
         ensures same { result ≡ error }
         ensures after { self.new ≡ record self.old { faults = faults_with self.old.faults error } }
@@ -204,10 +210,19 @@ impl<S: Store + Drop> Sealed<S> {
         match error {
             StoreError::NoMemory => StoreError::NoMemory,
             StoreError::Failed => {
-                self.faults = self.faults.saturating_add(1);
+                self.note_fault();
                 StoreError::Failed
             }
         }
+    }
+
+    /// Counts a fault.
+    fn note_fault(&mut self)
+        ensures after { self.new ≡ record self.old { faults = counted self.old.faults } }
+        ensures later { self.old.faults ≤ self.new.faults }
+        ensures risen { Rose self.old.faults self.new.faults }
+    {
+        self.faults = self.faults.saturating_add(1);
     }
 }
 
@@ -228,6 +243,9 @@ fn opened(
 ) -> Result<Vec<PageRow>, StoreError>
     ensures ok { IfOk result (λ rows. IsPageOf shape.now rows.items bytes.now × Agrees seal rows.items) }
     ensures failed { (rows : List Cells) → IsPageOf shape.now rows bytes.now → Agrees seal rows → IsErrOf result StoreError.Failed → ⊥ }
+
+    // Memory is wanted only for bytes of the length and the hash that were kept: others are a failure.
+    ensures compared { IsErrOf result StoreError.NoMemory → (length bytes.now ≡ seal.len) × (hash_of bytes.now ≡ seal.hash) }
 {
     if bytes.len() != seal.len as usize || hash_key(bytes) != seal.hash {
         return Err(StoreError::Failed);

@@ -1,8 +1,9 @@
-ghost use Rattle.std.specs.Prelude.{◌≡◌, ◌<◌, ◌^◌, ◌++◌, ◌∷◌, length, All, IfOk, OnOk, Ok, FitsSigned};
+ghost use Rattle.std.specs.Prelude.{◌≡◌, ◌<◌, ◌≤◌, ◌^◌, ◌++◌, ◌∷◌, List, length, All, IfOk, OnOk, Ok, FitsSigned};
 ghost use Rattle.std.specs.Int.{bytes_high_first, cast_unsigned, w128};
 ghost use Rattle.vx_value.specs.Value.{owned, IsLawful};
 ghost use Rattle.vx_value.specs.KeyBytes.{value_bytes};
-ghost use Rattle.vx_page.specs.Page.{HasShape, IsLawfulCell, IsPageOf, cell_bytes, row_bytes, body, page};
+ghost use Rattle.vx_page.specs.Page.{HasShape, IsLawfulCell, IsPageOf, cell_bytes, row_bytes, body, page, most_of_row};
+ghost use Rattle.vx_page.specs.declared.cell.Slot.{Slot};
 ghost use Rattle.vx_page.specs.Reading.{rows_of};
 
 use crate::cell::{Cell, PageRow, Slot};
@@ -42,9 +43,11 @@ fn body_len(rows: &[PageRow]) -> usize
     size
 }
 
-fn row_len(row: &PageRow) -> usize
+/// How many bytes a row has on a page. The slots of its shape bound it.
+pub fn row_len(row: &PageRow) -> usize
     requires { length (row_bytes row.now) < 2 ^ 32 }
-    ensures { result ≡ length (row_bytes row.now) }
+    ensures len { result ≡ length (row_bytes row.now) }
+    ensures within { (shape : List Slot) → HasShape shape row.now → result ≤ most_of_row shape }
 {
     let mut size = 0;
     for cell in row.cells() {
@@ -54,16 +57,26 @@ fn row_len(row: &PageRow) -> usize
 }
 
 fn cell_len(cell: &Cell) -> usize
-    ensures { result ≡ length (cell_bytes cell.now) }
+    ensures len { result ≡ length (cell_bytes cell.now) }
+    ensures lawful { IsLawfulCell cell.now }
 {
     match cell {
         Cell::Flag(_) => 1,
         Cell::Value(value) => value_len(value.as_ref()),
-        Cell::Wide(_) => 17,
+        Cell::Wide(n) => wide_len(*n),
     }
 }
 
-fn value_len(value: ValueRef<'_>) -> usize
+fn wide_len(n: i128) -> usize
+    ensures len { result ≡ 17 }
+    ensures lawful { FitsSigned w128 n }
+{
+    let _tag_and_bytes = n;
+    17
+}
+
+/// How many bytes a value has on a page.
+pub fn value_len(value: ValueRef<'_>) -> usize
     requires { IsLawful (owned value) }
     ensures { result ≡ length (value_bytes (owned value.entry)) }
 {

@@ -23,9 +23,9 @@ new_store fails = record { files = []; fails = fails; calls = 0; faults = 0 }
 abbrev pub files_of : List (Option (Vec ℕ Global)) → Files
 files_of files = map (λ file. option_map (λ bytes. bytes.items) file) files
 
--- what it tells: its files, and that no call is still to fail once its list is behind it
+-- what it tells: its files, of which each that was created has a place, and that no call is still to fail once its list is behind it
 abbrev pub store_view : StoreMemory → StoreView
-store_view s = record { files = Some s.files; faults = s.faults; unfailing = none_to_fail s.fails s.calls }
+store_view s = record { files = Some s.files; created = length s.files; faults = s.faults; unfailing = none_to_fail s.fails s.calls }
 
 -- the next call is one of those that fail
 abbrev pub next_fails : StoreMemory → Bool

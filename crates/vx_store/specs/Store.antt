@@ -1,6 +1,7 @@
 -- What each call does to the files of a store. Where a store tells its files it does so after each call, and
 -- where it doesn't, nothing is said of them.
 use Rattle.std.specs.Prelude.{◌≡◌, ◌⊎◌, ◌≤◌, ◌<◌, ℕ, ◌+◌, List, [], ◌++◌, length, take, drop, ⊤, Option, Some, None, true, Result, Ok, Err, IsErrOf}
+use Rattle.vx_base.specs.Causes.{HasCause}
 use Rattle.vx_store.specs.Files.{Files, bytes_at, SetsOnly}
 use Rattle.vx_store.specs.Script.{counted}
 use Rattle.vx_store.specs.Views.{StoreView}
@@ -86,9 +87,20 @@ IsPastEnd told n end = Tells (EndsBefore n end) told
 abbrev pub Removes : Option Files → Option Files → ℕ → Type 0
 Removes before after n = Told (λ old new. SetsOnly old new n None) before after
 
--- the file of this number may have gone, and each other is as it was
-abbrev pub MayRemove : Option Files → Option Files → ℕ → Type 0
-MayRemove before after n = Told (λ old new. Same old new ⊎ SetsOnly old new n None) before after
+-- what an error leaves: after a failure the file of this number may have gone, and each other is as it was;
+-- after want of memory all are
+abbrev pub Leaves : ℕ → StoreError → Files → Files → Type 0
+Leaves n Failed before after = Same before after ⊎ SetsOnly before after n None
+Leaves n NoMemory before after = Same before after
+
+abbrev pub MayRemove : Option Files → Option Files → ℕ → StoreError → Type 0
+MayRemove before after n error = Told (Leaves n error) before after
+
+-- the files that may have gone in a removal of the first number with this answer
+abbrev pub Goes : {T : Type 0} → ℕ → Result T StoreError → ℕ → Type 0
+Goes n (Ok done) k = k ≡ n
+Goes n (Err Failed) k = k ≡ n
+Goes n (Err NoMemory) k = ⊥
 
 -- each file that was there is there, but for those that `But` names
 abbrev pub KeepsThere : (ℕ → Type 0) → Option Files → Option Files → Type 0
@@ -103,6 +115,11 @@ abbrev pub faults_after : {T : Type 0} → ℕ → Result T StoreError → ℕ
 faults_after faults (Ok value) = faults
 faults_after faults (Err e) = faults_with faults e
 
+-- a file more was created, or none
+abbrev pub created_after : {T : Type 0} → ℕ → Result T StoreError → ℕ
+created_after created (Ok file) = created + 1
+created_after created (Err e) = created
+
 -- a store that tells that no call is still to fail tells so afterwards
 abbrev pub StaysUnfailing : StoreView → StoreView → Type 0
 StaysUnfailing before after = before.unfailing ≡ true → after.unfailing ≡ true
@@ -110,3 +127,13 @@ StaysUnfailing before after = before.unfailing ≡ true → after.unfailing ≡ 
 -- a call of such a store didn't fail
 abbrev pub FailsOnly : {T : Type 0} → StoreView → Result T StoreError → Type 0 → Type 0
 FailsOnly before result Cause = before.unfailing ≡ true → IsErrOf result Failed → Cause
+
+-- What stays in a call, and when it fails: the files that were there but those that `But` names, the count of
+-- faults but for a failure, which adds one, and that no call is still to fail, in which case one fails only
+-- where `Cause` holds.
+pub record Keeps {T : Type 0} (But : ℕ → Type 0) (Cause : Type 0) (before after : StoreView) (result : Result T StoreError) : Type 0 where
+  pub there : KeepsThere But before.files after.files
+  pub cause : HasCause (λ e. e ≡ Failed) before.faults after.faults result
+  pub faults : after.faults ≡ faults_after before.faults result
+  pub unfailing : StaysUnfailing before after
+  pub failed : FailsOnly before result Cause

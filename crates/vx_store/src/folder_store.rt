@@ -1,7 +1,7 @@
-ghost use Rattle.std.specs.Prelude.{◌≡◌, ◌≤◌, ◌+◌, IfOk, OnOk, OnErr, length};
-ghost use Rattle.vx_base.specs.Causes.{HasCause, Rose};
+ghost use Rattle.std.specs.Prelude.{◌≡◌, ◌≤◌, ◌+◌, OnOk, length};
+ghost use Rattle.vx_base.specs.Causes.{Rose};
 ghost use Rattle.vx_store.specs.Folder.{folder_view};
-ghost use Rattle.vx_store.specs.Store.{IsThere, Stays, Creates, Appends, AppendsSome, Reads, IsPastEnd, Removes, MayRemove, KeepsThere, StaysUnfailing, FailsOnly, faults_after, faults_with};
+ghost use Rattle.vx_store.specs.Store.{IsThere, Stays, Reads, IsPastEnd, Keeps, faults_with};
 
 use crate::error::StoreError;
 use crate::real_files::{Part, add_bytes, add_next, read_bytes, take_file};
@@ -39,25 +39,13 @@ impl<F: Files + Drop> FolderStore<F> {
 }
 
 impl<F: Files> Store for FolderStore<F> {
-    ghost state = { λ s. folder_view s.faults };
+    ghost state = { λ s. folder_view s.next s.faults };
 
     fn faults(&self) -> u64 {
         self.faults
     }
 
-    fn create(&mut self) -> Result<FileNo, StoreError>
-        ensures ok { IfOk result (λ file. Creates (folder_view self.old.faults).files (folder_view self.new.faults).files file.0) }
-        ensures err { OnErr result (Stays (folder_view self.old.faults).files (folder_view self.new.faults).files) }
-        ensures there { KeepsThere (λ _. ⊥) (folder_view self.old.faults).files (folder_view self.new.faults).files }
-        ensures ready { IfOk result (λ file. IsThere (folder_view self.new.faults).files file.0) }
-        ensures cause { HasCause (λ e. e ≡ StoreError.Failed) (folder_view self.old.faults).faults (folder_view self.new.faults).faults result }
-        ensures faults { (folder_view self.new.faults).faults ≡ faults_after (folder_view self.old.faults).faults result }
-        ensures unfailing { StaysUnfailing (folder_view self.old.faults) (folder_view self.new.faults) }
-        ensures failed { FailsOnly (folder_view self.old.faults) result ⊥ }
-
-        // No number is given twice.
-        ensures number { IfOk result (λ file. (file.0 ≡ self.old.next) × (self.new.next ≡ self.old.next + 1)) }
-    {
+    fn create(&mut self) -> Result<FileNo, StoreError> {
         let number = self.next;
         match add_next(self.alloc, &self.files, self.job, number) {
             Ok(after) => {
@@ -68,16 +56,7 @@ impl<F: Files> Store for FolderStore<F> {
         }
     }
 
-    fn append(&mut self, file: FileNo, bytes: &[u8]) -> Result<u64, StoreError>
-        requires { IsThere (folder_view self.old.faults).files file.0 }
-        ensures ok { IfOk result (λ at. Appends (folder_view self.old.faults).files (folder_view self.new.faults).files file.0 bytes.now at) }
-        ensures err { OnErr result (AppendsSome (folder_view self.old.faults).files (folder_view self.new.faults).files file.0 bytes.now) }
-        ensures there { KeepsThere (λ _. ⊥) (folder_view self.old.faults).files (folder_view self.new.faults).files }
-        ensures cause { HasCause (λ e. e ≡ StoreError.Failed) (folder_view self.old.faults).faults (folder_view self.new.faults).faults result }
-        ensures faults { (folder_view self.new.faults).faults ≡ faults_after (folder_view self.old.faults).faults result }
-        ensures unfailing { StaysUnfailing (folder_view self.old.faults) (folder_view self.new.faults) }
-        ensures failed { FailsOnly (folder_view self.old.faults) result ⊥ }
-    {
+    fn append(&mut self, file: FileNo, bytes: &[u8]) -> Result<u64, StoreError> {
         match add_bytes(self.alloc, &self.files, self.job, file.0, bytes) {
             Ok(at) => Ok(at),
             Err(error) => Err(self.noted(error)),
@@ -91,14 +70,11 @@ impl<F: Files> Store for FolderStore<F> {
         len: u32,
         into: &mut Vec<u8>,
     ) -> Result<(), StoreError>
-        requires { IsThere (folder_view self.old.faults).files file.0 }
-        ensures ok { OnOk result (Reads (folder_view self.old.faults).files file.0 at len into.new.items) }
-        ensures files { Stays (folder_view self.old.faults).files (folder_view self.new.faults).files }
-        ensures there { KeepsThere (λ _. ⊥) (folder_view self.old.faults).files (folder_view self.new.faults).files }
-        ensures cause { HasCause (λ e. e ≡ StoreError.Failed) (folder_view self.old.faults).faults (folder_view self.new.faults).faults result }
-        ensures faults { (folder_view self.new.faults).faults ≡ faults_after (folder_view self.old.faults).faults result }
-        ensures unfailing { StaysUnfailing (folder_view self.old.faults) (folder_view self.new.faults) }
-        ensures failed { FailsOnly (folder_view self.old.faults) result (IsPastEnd (folder_view self.old.faults).files file.0 (at + len)) }
+        requires { IsThere (folder_view self.old.next self.old.faults).files file.0 }
+        ensures ok { OnOk result (Reads (folder_view self.old.next self.old.faults).files file.0 at len into.new.items) }
+        ensures files { Stays (folder_view self.old.next self.old.faults).files (folder_view self.new.next self.new.faults).files }
+        ensures keeps { Keeps (λ _. ⊥) (IsPastEnd (folder_view self.old.next self.old.faults).files file.0 (at + len)) (folder_view self.old.next self.old.faults) (folder_view self.new.next self.new.faults) result }
+        ensures created { (folder_view self.new.next self.new.faults).created ≡ (folder_view self.old.next self.old.faults).created }
 
         ensures count { OnOk result (length into.new.items ≡ len) }
     {
@@ -114,16 +90,7 @@ impl<F: Files> Store for FolderStore<F> {
         }
     }
 
-    fn remove(&mut self, file: FileNo) -> Result<(), StoreError>
-        requires { IsThere (folder_view self.old.faults).files file.0 }
-        ensures ok { OnOk result (Removes (folder_view self.old.faults).files (folder_view self.new.faults).files file.0) }
-        ensures err { OnErr result (MayRemove (folder_view self.old.faults).files (folder_view self.new.faults).files file.0) }
-        ensures there { KeepsThere (λ n. n ≡ file.0) (folder_view self.old.faults).files (folder_view self.new.faults).files }
-        ensures cause { HasCause (λ e. e ≡ StoreError.Failed) (folder_view self.old.faults).faults (folder_view self.new.faults).faults result }
-        ensures faults { (folder_view self.new.faults).faults ≡ faults_after (folder_view self.old.faults).faults result }
-        ensures unfailing { StaysUnfailing (folder_view self.old.faults) (folder_view self.new.faults) }
-        ensures failed { FailsOnly (folder_view self.old.faults) result ⊥ }
-    {
+    fn remove(&mut self, file: FileNo) -> Result<(), StoreError> {
         match take_file(self.alloc, &self.files, self.job, file.0) {
             Ok(()) => Ok(()),
             Err(error) => Err(self.noted(error)),

@@ -1,8 +1,7 @@
-ghost use Rattle.std.specs.Prelude.{◌≡◌, ◌+◌, ◌↔◌, ◌||◌, ◌≤◌, ◌<◌, true, Some, None, take, drop, IfSome, IfOk, OnOk, OnErr, IsErrOf, length, slice_set};
-ghost use Rattle.vx_base.specs.Causes.{HasCause};
+ghost use Rattle.std.specs.Prelude.{◌≡◌, ◌+◌, ◌↔◌, ◌||◌, ◌≤◌, ◌<◌, true, Some, None, take, drop, IfSome, IfOk, IfErr, OnOk, OnErr, IsErrOf, length, slice_set};
 ghost use Rattle.vx_store.specs.Files.{bytes_at};
 ghost use Rattle.vx_store.specs.Memory.{files_of, store_view, new_store, next_fails, after_call, after_create, with_added, after_append, after_remove, is_past_end};
-ghost use Rattle.vx_store.specs.Store.{HasFile, AppendsAt, IsThere, Stays, Creates, Appends, AppendsSome, Reads, IsPastEnd, Removes, MayRemove, KeepsThere, StaysUnfailing, FailsOnly, faults_after};
+ghost use Rattle.vx_store.specs.Store.{HasFile, AppendsAt, IsThere, Stays, Creates, Appends, AppendsSome, Reads, IsPastEnd, Removes, MayRemove, Goes, Keeps, created_after};
 
 use crate::error::StoreError;
 use crate::script::Script;
@@ -53,16 +52,13 @@ impl Store for MemoryStore {
     fn create(&mut self) -> Result<FileNo, StoreError>
         ensures ok { IfOk result (λ file. Creates (store_view self.old).files (store_view self.new).files file.0) }
         ensures err { OnErr result (Stays (store_view self.old).files (store_view self.new).files) }
-        ensures there { KeepsThere (λ _. ⊥) (store_view self.old).files (store_view self.new).files }
         ensures ready { IfOk result (λ file. IsThere (store_view self.new).files file.0) }
-        ensures cause { HasCause (λ e. e ≡ StoreError.Failed) (store_view self.old).faults (store_view self.new).faults result }
-        ensures faults { (store_view self.new).faults ≡ faults_after (store_view self.old).faults result }
-        ensures unfailing { StaysUnfailing (store_view self.old) (store_view self.new) }
-        ensures failed { FailsOnly (store_view self.old) result ⊥ }
+        ensures keeps { Keeps (λ _. ⊥) ⊥ (store_view self.old) (store_view self.new) result }
+        ensures number { IfOk result (λ file. file.0 ≡ (store_view self.old).created) }
+        ensures created { (store_view self.new).created ≡ created_after (store_view self.old).created result }
 
-        // It fails exactly at the listed calls, and the numbers go up by one.
+        // It fails exactly at the listed calls.
         ensures listed { IsErrOf result StoreError.Failed ↔ (next_fails self.old ≡ true) }
-        ensures number { IfOk result (λ file. file.0 ≡ length self.old.files) }
         ensures after { self.new ≡ after_call self.old result (after_create self.old.files result) }
     {
         if self.script.next_fails() {
@@ -79,11 +75,8 @@ impl Store for MemoryStore {
         requires { IsThere (store_view self.old).files file.0 }
         ensures ok { IfOk result (λ at. Appends (store_view self.old).files (store_view self.new).files file.0 bytes.now at) }
         ensures err { OnErr result (AppendsSome (store_view self.old).files (store_view self.new).files file.0 bytes.now) }
-        ensures there { KeepsThere (λ _. ⊥) (store_view self.old).files (store_view self.new).files }
-        ensures cause { HasCause (λ e. e ≡ StoreError.Failed) (store_view self.old).faults (store_view self.new).faults result }
-        ensures faults { (store_view self.new).faults ≡ faults_after (store_view self.old).faults result }
-        ensures unfailing { StaysUnfailing (store_view self.old) (store_view self.new) }
-        ensures failed { FailsOnly (store_view self.old) result ⊥ }
+        ensures keeps { Keeps (λ _. ⊥) ⊥ (store_view self.old) (store_view self.new) result }
+        ensures created { (store_view self.new).created ≡ (store_view self.old).created }
 
         // It fails exactly at the listed calls.
         ensures listed { IsErrOf result StoreError.Failed ↔ (next_fails self.old ≡ true) }
@@ -106,11 +99,8 @@ impl Store for MemoryStore {
         requires { IsThere (store_view self.old).files file.0 }
         ensures ok { OnOk result (Reads (store_view self.old).files file.0 at len into.new.items) }
         ensures files { Stays (store_view self.old).files (store_view self.new).files }
-        ensures there { KeepsThere (λ _. ⊥) (store_view self.old).files (store_view self.new).files }
-        ensures cause { HasCause (λ e. e ≡ StoreError.Failed) (store_view self.old).faults (store_view self.new).faults result }
-        ensures faults { (store_view self.new).faults ≡ faults_after (store_view self.old).faults result }
-        ensures unfailing { StaysUnfailing (store_view self.old) (store_view self.new) }
-        ensures failed { FailsOnly (store_view self.old) result (IsPastEnd (store_view self.old).files file.0 (at + len)) }
+        ensures keeps { Keeps (λ _. ⊥) (IsPastEnd (store_view self.old).files file.0 (at + len)) (store_view self.old) (store_view self.new) result }
+        ensures created { (store_view self.new).created ≡ (store_view self.old).created }
 
         // It fails exactly at the listed calls and past the file's end.
         ensures listed { IsErrOf result StoreError.Failed ↔ (next_fails self.old || is_past_end self.old.files file.0 (at + len) ≡ true) }
@@ -132,12 +122,9 @@ impl Store for MemoryStore {
     fn remove(&mut self, file: FileNo) -> Result<(), StoreError>
         requires { IsThere (store_view self.old).files file.0 }
         ensures ok { OnOk result (Removes (store_view self.old).files (store_view self.new).files file.0) }
-        ensures err { OnErr result (MayRemove (store_view self.old).files (store_view self.new).files file.0) }
-        ensures there { KeepsThere (λ n. n ≡ file.0) (store_view self.old).files (store_view self.new).files }
-        ensures cause { HasCause (λ e. e ≡ StoreError.Failed) (store_view self.old).faults (store_view self.new).faults result }
-        ensures faults { (store_view self.new).faults ≡ faults_after (store_view self.old).faults result }
-        ensures unfailing { StaysUnfailing (store_view self.old) (store_view self.new) }
-        ensures failed { FailsOnly (store_view self.old) result ⊥ }
+        ensures err { IfErr result (MayRemove (store_view self.old).files (store_view self.new).files file.0) }
+        ensures keeps { Keeps (Goes file.0 result) ⊥ (store_view self.old) (store_view self.new) result }
+        ensures created { (store_view self.new).created ≡ (store_view self.old).created }
 
         // It fails exactly at the listed calls.
         ensures listed { IsErrOf result StoreError.Failed ↔ (next_fails self.old ≡ true) }
@@ -181,6 +168,7 @@ fn append_to(files: &mut Vec<Option<Vec<u8>>>, number: u64, bytes: &[u8]) -> Res
     requires { HasFile number (files_of files.old.items) }
     ensures ok { IfOk result (λ at. AppendsAt number bytes.now at (files_of files.old.items) (files_of files.new.items)) }
     ensures set { OnOk result (files_of files.new.items ≡ with_added (files_of files.old.items) number bytes.now) }
+    ensures count { length (files_of files.new.items) ≡ length (files_of files.old.items) }
     ensures err { OnErr result (files_of files.new.items ≡ files_of files.old.items) }
 {
     match &mut files[number as usize] {
@@ -196,7 +184,8 @@ fn append_to(files: &mut Vec<Option<Vec<u8>>>, number: u64, bytes: &[u8]) -> Res
 /// Takes a file away.
 fn take_away(files: &mut Vec<Option<Vec<u8>>>, number: u64)
     requires { HasFile number (files_of files.old.items) }
-    ensures { files_of files.new.items ≡ slice_set (files_of files.old.items) number None }
+    ensures set { files_of files.new.items ≡ slice_set (files_of files.old.items) number None }
+    ensures count { length (files_of files.new.items) ≡ length (files_of files.old.items) }
 {
     files[number as usize] = None;
 }

@@ -1,7 +1,6 @@
-ghost use Rattle.std.specs.Prelude.{◌≡◌, ◌+◌, IfOk, OnOk, OnErr};
-ghost use Rattle.vx_base.specs.Causes.{HasCause};
+ghost use Rattle.std.specs.Prelude.{◌≡◌, ◌+◌, IfOk, IfErr, OnOk, OnErr};
 ghost use Rattle.vx_store.specs.Views.{StoreView};
-ghost use Rattle.vx_store.specs.Store.{IsThere, Stays, Creates, Appends, AppendsSome, Reads, IsPastEnd, Removes, MayRemove, KeepsThere, StaysUnfailing, FailsOnly, faults_after};
+ghost use Rattle.vx_store.specs.Store.{IsThere, Stays, Creates, Appends, AppendsSome, Reads, IsPastEnd, Removes, MayRemove, Goes, Keeps, created_after};
 
 use crate::error::StoreError;
 
@@ -14,23 +13,22 @@ pub struct FileNo(pub u64);
 /// The count of faults rises exactly where a call answers `Failed`. What is said of the files holds where
 /// the store tells them.
 pub trait Store {
-    /// The files, the faults, and whether a call is still to fail.
+    /// The files, how many were created, the faults, and whether a call is still to fail.
     ghost state: { Self → StoreView };
 
     /// How many calls have failed; it stays at the last `u64`.
     fn faults(&self) -> u64
         ensures { result ≡ (state self.now).faults };
 
-    /// Adds an empty file, with a number that no file there has. After an error all files are as they were.
+    /// Adds an empty file. Its number is how many files were created before, so no number is given twice.
+    /// After an error all files are as they were.
     fn create(&mut self) -> Result<FileNo, StoreError>
         ensures ok { IfOk result (λ file. Creates (state self.old).files (state self.new).files file.0) }
         ensures err { OnErr result (Stays (state self.old).files (state self.new).files) }
-        ensures there { KeepsThere (λ _. ⊥) (state self.old).files (state self.new).files }
         ensures ready { IfOk result (λ file. IsThere (state self.new).files file.0) }
-        ensures cause { HasCause (λ e. e ≡ StoreError.Failed) (state self.old).faults (state self.new).faults result }
-        ensures faults { (state self.new).faults ≡ faults_after (state self.old).faults result }
-        ensures unfailing { StaysUnfailing (state self.old) (state self.new) }
-        ensures failed { FailsOnly (state self.old) result ⊥ };
+        ensures keeps { Keeps (λ _. ⊥) ⊥ (state self.old) (state self.new) result }
+        ensures number { IfOk result (λ file. file.0 ≡ (state self.old).created) }
+        ensures created { (state self.new).created ≡ created_after (state self.old).created result };
 
     /// Adds the bytes at the file's end and answers the place at which they begin. After an error the first
     /// of them may be there.
@@ -38,11 +36,8 @@ pub trait Store {
         requires { IsThere (state self.old).files file.0 }
         ensures ok { IfOk result (λ at. Appends (state self.old).files (state self.new).files file.0 bytes.now at) }
         ensures err { OnErr result (AppendsSome (state self.old).files (state self.new).files file.0 bytes.now) }
-        ensures there { KeepsThere (λ _. ⊥) (state self.old).files (state self.new).files }
-        ensures cause { HasCause (λ e. e ≡ StoreError.Failed) (state self.old).faults (state self.new).faults result }
-        ensures faults { (state self.new).faults ≡ faults_after (state self.old).faults result }
-        ensures unfailing { StaysUnfailing (state self.old) (state self.new) }
-        ensures failed { FailsOnly (state self.old) result ⊥ };
+        ensures keeps { Keeps (λ _. ⊥) ⊥ (state self.old) (state self.new) result }
+        ensures created { (state self.new).created ≡ (state self.old).created };
 
     /// Sets `into` to `len` bytes of the file from the place `at` on. Bytes past the file's end are a fault.
     /// After an error `into` is any list.
@@ -56,20 +51,14 @@ pub trait Store {
         requires { IsThere (state self.old).files file.0 }
         ensures ok { OnOk result (Reads (state self.old).files file.0 at len into.new.items) }
         ensures files { Stays (state self.old).files (state self.new).files }
-        ensures there { KeepsThere (λ _. ⊥) (state self.old).files (state self.new).files }
-        ensures cause { HasCause (λ e. e ≡ StoreError.Failed) (state self.old).faults (state self.new).faults result }
-        ensures faults { (state self.new).faults ≡ faults_after (state self.old).faults result }
-        ensures unfailing { StaysUnfailing (state self.old) (state self.new) }
-        ensures failed { FailsOnly (state self.old) result (IsPastEnd (state self.old).files file.0 (at + len)) };
+        ensures keeps { Keeps (λ _. ⊥) (IsPastEnd (state self.old).files file.0 (at + len)) (state self.old) (state self.new) result }
+        ensures created { (state self.new).created ≡ (state self.old).created };
 
-    /// Takes the file away. After `Failed` it may be there or not.
+    /// Takes the file away. After `Failed` it may be there or not; want of memory leaves it.
     fn remove(&mut self, file: FileNo) -> Result<(), StoreError>
         requires { IsThere (state self.old).files file.0 }
         ensures ok { OnOk result (Removes (state self.old).files (state self.new).files file.0) }
-        ensures err { OnErr result (MayRemove (state self.old).files (state self.new).files file.0) }
-        ensures there { KeepsThere (λ n. n ≡ file.0) (state self.old).files (state self.new).files }
-        ensures cause { HasCause (λ e. e ≡ StoreError.Failed) (state self.old).faults (state self.new).faults result }
-        ensures faults { (state self.new).faults ≡ faults_after (state self.old).faults result }
-        ensures unfailing { StaysUnfailing (state self.old) (state self.new) }
-        ensures failed { FailsOnly (state self.old) result ⊥ };
+        ensures err { IfErr result (MayRemove (state self.old).files (state self.new).files file.0) }
+        ensures keeps { Keeps (Goes file.0 result) ⊥ (state self.old) (state self.new) result }
+        ensures created { (state self.new).created ≡ (state self.old).created };
 }

@@ -11,4 +11,4 @@ row_len-size-requires c =
 pub overflow_add-size : goal.overflow_add-size
 overflow_add-size c =
     let fits = within row_bytes c.args.rows.now c.loop-row.row-index c.row-item.result c.loop-row-test.true c.row-item.is in
-    omega (arith, fits, c.requires, c.loop-row.invariant, c.row_len-size.ensures)
+    omega (arith, fits, c.requires, c.loop-row.invariant, c.row_len-size.ensures.len)

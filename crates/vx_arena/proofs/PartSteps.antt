@@ -1,5 +1,5 @@
 -- One part more in an arena, or one fewer.
-use Rattle.std.proofs.Common.{◌≡◌, ◌≢◌, ℕ, ◌+◌, ◌^◌, ◌<◌, ◌≤◌, Some, None, List, length, take, drop, refl, sym, ap, ◌∙◌, arith, w64}
+use Rattle.std.proofs.Common.{inl, inr, ◌≡◌, ◌≢◌, ◌⊎◌, ℕ, ◌+◌, ◌-◌, ◌^◌, ◌<◌, ◌≤◌, Some, None, List, length, take, drop, refl, sym, ap, ◌∙◌, subst, arith, w64}
 use Rattle.std.specs.Int.{to_le_bytes}
 use Rattle.std.proofs.lemmas.List.{take_at}
 use Rattle.std.proofs.lemmas.Nat.{from_le_bytes-to_le_bytes_8}
@@ -7,12 +7,12 @@ use Rattle.vx_raw.specs.Region.{written}
 use Rattle.vx_arena.specs.Chunks.{Chunks}
 use Rattle.vx_arena.specs.Names.{none, named, live_at, lives}
 use Rattle.vx_arena.specs.Free.{class_len, next_in, IsLive, Frees, Writes}
-use Rattle.vx_arena.specs.Part.{class_for, IsSpare, Takes, Pays}
+use Rattle.vx_arena.specs.Part.{class_for, IsSpare, Rest, CutFrom, CutNew, Takes, Pays}
 use Rattle.vx_arena.specs.Text.{more, block_bytes, payload_at, StandsLive, next_at, IsUnnamed, IsArena, CanFollow, AddsPart, GivesPart}
 use Rattle.vx_arena.proofs.Heads.{length-written}
 use Rattle.vx_arena.proofs.Effects.{live_again}
-use Rattle.vx_arena.proofs.Parts.{class_for_below, class_for_holds}
-use Rattle.vx_arena.proofs.Paying.{pays_kept, pays_then, pays_cost, pays_takes}
+use Rattle.vx_arena.proofs.Parts.{class_for_below, class_for_holds, len_same}
+use Rattle.vx_arena.proofs.Paying.{pays_kept, pays_takes}
 use Rattle.vx_arena.proofs.Chaining.{payload_from, stands_from, named_payload, apart_from, chained_more, unnamed_more, chained_less, unnamed_less}
 
 -- a payload with a link and a part
@@ -28,6 +28,41 @@ part_read payload part next = take_at part (drop (8 + length part) (linked paylo
 
 pub class_fits : (class n : ℕ) → class ≡ class_for (8 + n) → class < 8
 class_fits class n is = let below : class_for (8 + n) < 8 = class_for_below (8 + n) in omega (arith, below, is)
+
+-- what is free stays free where a live block is written
+spare_again : (x y : Chunks) (name : ℕ) (p : List ℕ) → IsLive x name → Writes x y name p → (n l : ℕ) → IsSpare x n l → IsSpare y n l
+spare_again x y name p live wrote n l s =
+    let ne : n ≡ name → ⊥ = λ e. apart_from x name n (stands_from x name (named x name).payload live) s.free (sym e) in
+    record { free = wrote.others n ne ∙ s.free; long = wrote.lens n ∙ s.long }
+
+rest_again : (x y : Chunks) (name : ℕ) (p : List ℕ) (len : ℕ) → IsLive x name → Writes x y name p → Rest x len → Rest y len
+rest_again x y name p len live wrote r = record { name = r.name; spare = spare_again x y name p live wrote r.name len r.spare }
+
+-- a block was taken, and then written
+takes_written : (class : ℕ) (a x y : Chunks) (name : ℕ) (p : List ℕ) → Takes class a x name → Writes x y name p → Takes class a y name
+takes_written class a x y name p t wrote =
+    let live : IsLive y name = live_again y name p wrote.now in
+    let same : length (named y name).payload ≡ length (named x name).payload = len_same x y name t.live live (wrote.lens name) in
+    let long : class_len class ≤ length (named x name).payload = t.long in
+    let short : length (named x name).payload < class_len class + 24 = t.short in
+    record {
+      some = t.some;
+      fresh = t.fresh;
+      live = live;
+      long = omega (arith, same, long);
+      short = omega (arith, same, short);
+      others = λ n ne. wrote.others n ne ∙ t.others n ne;
+      lens = λ n l ne is. wrote.lens n ∙ t.lens n l ne is;
+      count = wrote.count ∙ t.count;
+      source = elim (t.source) as (λ _. CutFrom a y name (class_len class) ⊎ CutNew a y (class_len class)) [
+        | inl f ↦ inl (record { was = f.was; found = f.found; rest = left_of (f.was) (f.rest); held = wrote.held ∙ f.held })
+        | inr f ↦ inr (record { none_of = f.none_of; rest = rest_again x y name p (4088 - (class_len class + 8)) t.live wrote f.rest; held = wrote.held ∙ f.held })
+      ];
+    }
+  where
+    left_of : (was : ℕ) → (was < class_len class + 24) ⊎ Rest x (was - (class_len class + 8)) → (was < class_len class + 24) ⊎ Rest y (was - (class_len class + 8))
+    left_of was (inl few) = inl few
+    left_of was (inr r) = inr (rest_again x y name p (was - (class_len class + 8)) t.live wrote r)
 
 module _ (a m w d : Chunks) (name next class : ℕ) (part link : List ℕ) (few : length part ≤ 2040) (class_is : class ≡ class_for (8 + length part)) (fits : next < 2 ^ 64) (t : Takes class a m name) (link_is : link ≡ to_le_bytes w64 next) where
   room : 8 + length part ≤ length (named m name).payload
@@ -70,22 +105,13 @@ module _ (a m w d : Chunks) (name next class : ℕ) (part link : List ℕ) (few 
       others : (n : ℕ) → (n ≡ name → ⊥) → live_at d n ≡ live_at a n
       others n ne = two.others n ne ∙ (one.others n ne ∙ t.others n ne)
 
-      spare_again : (x y : Chunks) (p : List ℕ) → IsLive x name → Writes x y name p → (n l : ℕ) → IsSpare x n l → IsSpare y n l
-      spare_again x y p live wrote n l s =
-          let ne : n ≡ name → ⊥ = λ e. gone_live x n e s.free live in
-          record { free = wrote.others n ne ∙ s.free; long = wrote.lens n ∙ s.long } where
-            gone_live : (x : Chunks) (n : ℕ) → n ≡ name → live_at x n ≡ None → IsLive x name → ⊥
-            gone_live x n e gone live = apart_from x name n (stands_from x name (named x name).payload live) gone (sym e)
+      takes : Takes (class_for (8 + length part)) a d name
+      takes = subst (λ (k : ℕ). Takes k a d name) class_is
+          (takes_written class a w d name (written (named w name).payload 8 part) (takes_written class a m w name (written (named m name).payload 0 link) t one) two)
 
       pays : Pays a d (block_bytes (length part))
       unfolding block_bytes
-      pays =
-          let lt : class < 8 = class_fits class (length part) class_is in
-          let first : Pays a m (8 + class_len class) = pays_takes class a m name lt t in
-          let second : Pays m w 0 = pays_kept m w one.held (spare_again m w (written (named m name).payload 0 link) t.live one) in
-          let third : Pays w d 0 = pays_kept w d two.held (spare_again w d (written (named w name).payload 8 part) linked_live two) in
-          let same : class_len class ≡ class_len (class_for (8 + length part)) = ap class_len class_is in
-          pays_cost a d (8 + class_len class + 0 + 0) (8 + class_len (class_for (8 + length part))) (omega (arith, same)) (pays_then a w d (8 + class_len class + 0) 0 (pays_then a m w (8 + class_len class) 0 first second) third)
+      pays = pays_takes (class_for (8 + length part)) a d name (class_for_below (8 + length part)) takes
 
       pub part_added : AddsPart (record { chunks = a; taken = taken; given = given }) (record { chunks = d; taken = more taken 1; given = given }) name next part
       part_added = record {
@@ -98,6 +124,7 @@ module _ (a m w d : Chunks) (name next class : ℕ) (part link : List ℕ) (few 
         others = others;
         taken = refl;
         given = refl;
+        takes = takes;
         pays = pays;
       }
 

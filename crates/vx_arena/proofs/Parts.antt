@@ -126,7 +126,7 @@ trims_none chunks name len some live long short = record {
   held = refl;
 }
 
-len_same : (a d : Chunks) (name : ℕ) → IsLive a name → IsLive d name → len_at d name ≡ len_at a name → length (named d name).payload ≡ length (named a name).payload
+pub len_same : (a d : Chunks) (name : ℕ) → IsLive a name → IsLive d name → len_at d name ≡ len_at a name → length (named d name).payload ≡ length (named a name).payload
 len_same a d name one two same = same_number (length (named d name).payload) (length (named a name).payload) (sym (live_len d name two) ∙ (same ∙ live_len a name one))
 
 not_live_none : (chunks : Chunks) (n m : ℕ) → IsLive chunks n → live_at chunks m ≡ None → n ≡ m → ⊥

@@ -4,11 +4,11 @@ use Rattle.std.proofs.lemmas.Bool.{cases_eq, cases_lt, eqb-false, ne_eqb}
 use Rattle.std.proofs.lemmas.List.{append-nil, nil_from_length, length-append, length-take-le, length-drop, take-append-drop, take-take}
 use Rattle.std.proofs.lemmas.List.Concat.{flat_map-cons}
 use Rattle.std.proofs.Math.Seq.{take-append-add, take-length}
-use Rattle.vx_arena.specs.Chunks.{Chunks}
+use Rattle.vx_arena.specs.Chunks.{Chunks, held_by}
 use Rattle.vx_arena.specs.Names.{none, live_at, lives}
 use Rattle.vx_arena.specs.Free.{IsIn}
-use Rattle.vx_arena.specs.Part.{Paid, none_made, spare_left, all_paid, PaysMore, Pays}
-use Rattle.vx_arena.specs.Text.{ArenaModel, more, payload_at, next_at, part_at, bytes_in, CanFollow, AddsPart, blocks_of, block_bytes, cost_of, GivesText, GivesAll, TakesText, TakesNothing, HasChain, IsArena}
+use Rattle.vx_arena.specs.Part.{class_for, Takes, Paid, none_made, spare_left, all_paid, PaysMore, Pays}
+use Rattle.vx_arena.specs.Text.{ArenaModel, more, payload_at, next_at, part_at, bytes_in, CanFollow, AddsPart, blocks_of, block_bytes, cost_of, GivesText, GivesAll, TakesBlocks, TakesSome, TakesText, TakesNothing, HasChain, IsArena}
 use Rattle.vx_arena.proofs.Paying.{pays_so, pays_kept, pays_then, pays_cost}
 use Rattle.vx_arena.proofs.Chaining.{apart_from}
 use Rattle.vx_arena.proofs.Texts.{is_in}
@@ -105,6 +105,7 @@ stores_none a text fits empty =
       taken = omega (arith, fits);
       given = refl;
       unnamed = λ n live to. refl;
+      takes = refl;
       pays = pays_cost a.chunks a.chunks 0 (cost_of 0) (sym cost_zero) (pays_kept a.chunks a.chunks refl (λ n l s. s));
     })
 
@@ -159,6 +160,23 @@ module _ (a m d : ArenaModel) (text part rest : List ℕ) (name next : ℕ) (c :
         | inr empty ↦ let zero_rest : length rest ≡ 0 = ap length empty in omega (arith, count, all, zero_rest, some, most)
       ]
 
+  -- a text's first part and the rest, by their lengths
+  parts : (min (length text) 2040 ≡ length part) × (length rest ≡ length text - 2040)
+  parts =
+      let all : length text ≡ length part + length rest = all_long in
+      let most : length part ≤ 2040 = c.most in
+      elim (c.full) as (λ _. (min (length text) 2040 ≡ length part) × (length rest ≡ length text - 2040)) [
+        | inl full ↦ (omega (arith, all, full), omega (arith, all, full))
+        | inr empty ↦ let zero_rest : length rest ≡ 0 = ap length empty in (omega (arith, all, zero_rest, most), omega (arith, all, zero_rest, most))
+      ]
+
+  takes_all : TakesBlocks a.chunks d.chunks (name ∷ t.names) (length text)
+  takes_all = (
+    m.chunks,
+    subst (λ (k : ℕ). TakesBlocks a.chunks m.chunks t.names k) parts.1 t.takes,
+    subst (λ (k : ℕ). Takes (class_for (8 + k)) m.chunks d.chunks name) (sym parts.0) p.takes,
+  )
+
   pub stores_more : TakesText a d name text
   stores_more =
       let one : m.taken ≡ more a.taken (blocks_of (length rest)) = t.taken in
@@ -178,11 +196,33 @@ module _ (a m d : ArenaModel) (text part rest : List ℕ) (name next : ℕ) (c :
         taken = omega (arith, one, two, count, before);
         given = p.given ∙ t.given;
         unnamed = p.first;
+        takes = takes_all;
         pays = pays_cost a.chunks d.chunks (cost_of (length rest) + block_bytes (length part)) (cost_of (length text)) (cost_cut text part rest c) (pays_then a.chunks m.chunks d.chunks (cost_of (length rest)) (block_bytes (length part)) t.pays p.pays);
       }
 
 cost_less : (text part rest : List ℕ) → Cut text part rest → cost_of (length rest) ≤ cost_of (length text)
 cost_less text part rest c = let all : cost_of (length rest) + block_bytes (length part) ≡ cost_of (length text) = cost_cut text part rest c in omega (arith, all)
+
+some_less : (a d : Chunks) (less most : ℕ) → less ≤ most → TakesSome a d less → TakesSome a d most
+some_less a d less most le s = record {
+  middle = s.middle;
+  names = s.names;
+  bytes = s.bytes;
+  within = let within : s.bytes ≤ less = s.within in omega (arith, within, le);
+  takes = s.takes;
+  held = s.held;
+}
+
+rest_less : (text part rest : List ℕ) → Cut text part rest → length rest ≤ length text
+rest_less text part rest c = let all : length text ≡ length part + length rest = ap length (sym c.all) ∙ length-append part rest in omega (arith, all)
+
+-- where nothing is paid for no chunk is made
+pays_held : (a d : Chunks) → Pays a d 0 → held_by d ≡ held_by a
+pays_held a d pays =
+    let p : PaysMore a d 0 0 0 = pays 0 0 (none_made refl) in
+    let held : held_by d ≡ held_by a + 4096 * p.chunks = p.held in
+    let none : p.chunks ≡ 0 = p.none refl in
+    omega (arith, held, none)
 
 -- the rest could not be stored
 pub nothing_rest : (a m : ArenaModel) (text part rest : List ℕ) → Cut text part rest → TakesNothing a m rest → TakesNothing a m text
@@ -191,6 +231,7 @@ nothing_rest a m text part rest c t = record {
   blocks = t.blocks;
   taken = t.taken;
   given = t.given;
+  takes = some_less a.chunks m.chunks (length rest) (length text) (rest_less text part rest c) t.takes;
   pays = pays_most a.chunks m.chunks (cost_of (length rest)) (cost_of (length text)) (cost_less text part rest c) t.pays;
 }
 
@@ -211,6 +252,14 @@ nothing_more a m d text part rest next c t gives =
       blocks = length t.names;
       taken = omega (arith, one, two, count);
       given = omega (arith, three, four);
+      takes = record {
+        middle = m.chunks;
+        names = t.names;
+        bytes = length rest;
+        within = rest_less text part rest c;
+        takes = t.takes;
+        held = pays_held m.chunks d.chunks g.pays;
+      };
       pays = pays_most a.chunks d.chunks (cost_of (length rest) + 0) (cost_of (length text)) (let less : cost_of (length rest) ≤ cost_of (length text) = cost_less text part rest c in omega (arith, less)) (pays_then a.chunks m.chunks d.chunks (cost_of (length rest)) 0 t.pays g.pays);
     }
 

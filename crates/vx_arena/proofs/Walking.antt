@@ -1,7 +1,7 @@
 -- The loops that go along a chain.
-use Rattle.std.proofs.Common.{inl, inr, ◌≡◌, ◌≢◌, zero, suc, ℕ, ◌+◌, ◌-◌, ◌≤◌, Bool, false, eqb, IsTrue, ◌↔◌, List, [], ◌∷◌, ◌++◌, length, take, drop, min, refl, sym, ap, ◌∙◌, subst, arith}
+use Rattle.std.proofs.Common.{inl, inr, ◌≡◌, ◌≢◌, zero, suc, ℕ, ◌+◌, ◌-◌, ◌<◌, ◌≤◌, Bool, false, eqb, IsTrue, ◌↔◌, List, [], ◌∷◌, ◌++◌, length, take, drop, min, refl, sym, ap, ◌∙◌, subst, arith}
 use Rattle.std.proofs.lemmas.Bool.{cases_lt, eqb-true, eq-eqb, both_ways}
-use Rattle.std.proofs.lemmas.List.{append-nil, append_assoc, nil_from_length, take_min, take_at, drop_at, take-append-le, take-append-drop, length-take, length-drop}
+use Rattle.std.proofs.lemmas.List.{append-nil, append_assoc, nil_from_length, take_min, take_at, drop_at, take-append-le, take-append-drop, length-append, length-take, length-take-le, length-drop}
 use Rattle.std.proofs.lemmas.List.Concat.{flat_map-cons}
 use Rattle.std.proofs.Math.Seq.{take-length, drop-length, take-append-add}
 use Rattle.vx_arena.specs.Chunks.{Chunks}
@@ -104,95 +104,80 @@ read_next c old into now part len due first name next done count r some is least
     } in
     subst (λ (k : ℕ). ReadSoFar c old now len (due - count) first k (done + 1)) (sym to) r2
 
--- a part and what is behind it, against a text
-record Matches (part behind text : List ℕ) (count : ℕ) : Type 0 where
-  pub both : take (length text) (part ++ behind) ≡ text → (take count part ≡ take count text) × (take (length (drop count text)) behind ≡ drop count text)
-  pub from : take count part ≡ take count text → take (length (drop count text)) behind ≡ drop count text → take (length text) (part ++ behind) ≡ text
+-- bytes of known length with others behind them, against a text
+record Fronts (front behind text : List ℕ) (count : ℕ) : Type 0 where
+  pub few : count ≤ length text
+  pub first : front ≡ take count text
+  pub later : behind ≡ drop count text
 
-matches_short : (part behind text : List ℕ) (count : ℕ) → count ≡ length text → length text ≤ length part → Matches part behind text count
-matches_short part behind text count is le =
-    let near : take (length text) (part ++ behind) ≡ take (length text) part = take-append-le (length text) part behind le in
-    let whole : take count text ≡ text = ap (λ (k : ℕ). take k text) is ∙ take-length text in
-    let nothing : drop count text ≡ [] = ap (λ (k : ℕ). drop k text) is ∙ drop-length text in
-    record {
-      both = λ e. (ap (λ (k : ℕ). take k part) is ∙ (sym near ∙ (e ∙ sym whole)), ap (λ (l : List ℕ). take (length l) behind) nothing ∙ sym nothing);
-      from = λ one two. near ∙ (ap (λ (k : ℕ). take k part) (sym is) ∙ (one ∙ whole));
-    }
+fronts : (front behind text : List ℕ) (count : ℕ) → length front ≡ count → front ++ behind ≡ text → Fronts front behind text count
+fronts front behind text count is e = record {
+  few = let all : length text ≡ length front + length behind = ap length (sym e) ∙ length-append front behind in omega (arith, all, is);
+  first = sym (take_at front behind count is) ∙ ap (take count) e;
+  later = sym (drop_at front behind count is) ∙ ap (drop count) e;
+}
 
-matches_long : (part behind text : List ℕ) (count k : ℕ) → count ≡ length part → length text ≡ length part + k → Matches part behind text count
-matches_long part behind text count k is long =
-    let whole : take count part ≡ part = ap (λ (n : ℕ). take n part) is ∙ take-length part in
-    let more : take (length text) (part ++ behind) ≡ part ++ take k behind = ap (λ (n : ℕ). take n (part ++ behind)) long ∙ take-append-add part behind k in
-    let left : length (drop count text) ≡ k = length-drop count text ∙ omega (arith, is, long) in
-    record {
-      both = λ e.
-          (let split : part ++ take k behind ≡ text = sym more ∙ e in (
-            whole ∙ (sym (take_at part (take k behind) count (sym is)) ∙ ap (take count) split),
-            ap (λ (n : ℕ). take n behind) left ∙ (sym (drop_at part (take k behind) count (sym is)) ∙ ap (drop count) split),
-          ));
-      from = λ one two. more ∙ (ap (λ (x : List ℕ). x ++ take k behind) (sym whole ∙ one)
-          ∙ (ap (λ (x : List ℕ). take count text ++ x) (ap (λ (n : ℕ). take n behind) (sym left) ∙ two) ∙ take-append-drop count text));
-    }
-
-matches : (part behind text : List ℕ) (count : ℕ) → count ≡ min (length part) (length text) → Matches part behind text count
-matches part behind text count is = elim (cases_lt (length part) (length text)) as (λ _. Matches part behind text count) [
-  | inl less ↦ matches_long part behind text count (length text - length part) (omega (arith, is, less)) (omega (arith, less))
-  | inr ge ↦ matches_short part behind text count (omega (arith, is, ge)) ge
-]
-
--- whether the text is there comes down to whether its rest is in the rest of the chain
-pub record ComparedSoFar (c : Chunks) (text rest : List ℕ) (first name done : ℕ) : Type 0 where
+-- whether the text is there comes down to whether its rest is what is due of the chain's rest
+pub record ComparedSoFar (c : Chunks) (text rest : List ℕ) (len due first name done : ℕ) : Type 0 where
   pub left : Left c name done
-  pub only : take (length text) (bytes_from 33 c first) ≡ text → take (length rest) (bytes_in c left.rest) ≡ rest
-  pub if_rest : take (length rest) (bytes_in c left.rest) ≡ rest → take (length text) (bytes_from 33 c first) ≡ text
+  pub only : take len (bytes_from 33 c first) ≡ text → take due (bytes_in c left.rest) ≡ rest
+  pub if_rest : take due (bytes_in c left.rest) ≡ rest → take len (bytes_from 33 c first) ≡ text
 
-pub compare_start : (c : Chunks) (text : List ℕ) (first : ℕ) → HasText c first → ComparedSoFar c text text first first 0
-compare_start c text first h =
+pub compare_start : (c : Chunks) (text : List ℕ) (len first : ℕ) → HasText c first → ComparedSoFar c text text len len first first 0
+compare_start c text len first h =
     let same : bytes_from 33 c first ≡ bytes_in c h.names = text_bytes c first h in
     record {
       left = record { rest = h.names; chain = h.chain; few = let few : length h.names ≤ 33 = h.few in omega (arith, few) };
-      only = λ e. ap (take (length text)) (sym same) ∙ e;
-      if_rest = λ e. ap (take (length text)) same ∙ e;
+      only = λ e. ap (take len) (sym same) ∙ e;
+      if_rest = λ e. ap (take len) same ∙ e;
     }
 
-compare_done : (c : Chunks) (text rest : List ℕ) (first name done : ℕ) (s : ComparedSoFar c text rest first name done) → s.left.rest ≡ [] → (b : Bool) → b ≡ eqb (length rest) 0 → IsTrue b ↔ (take (length text) (bytes_from 33 c first) ≡ text)
-compare_done c text rest first name done s e b is = (
-  λ yes. s.if_rest (let nil : rest ≡ [] = nil_from_length rest (eqb-true (length rest) 0 (sym is ∙ yes)) in
-      subst (λ (r : List ℕ). take (length r) (bytes_in c s.left.rest) ≡ r) (sym nil) refl),
-  λ same. is ∙ eq-eqb (length rest) 0 (ap length (sym (nothing_left (s.only same)))),
-)
-  where
-    nothing_left : take (length rest) (bytes_in c s.left.rest) ≡ rest → [] ≡ rest
-    nothing_left is = sym (ap (λ (l : List ℕ). take (length rest) (bytes_in c l)) e ∙ take_nil (length rest)) ∙ is
+module _ (c : Chunks) (text rest : List ℕ) (len due first name done : ℕ) (s : ComparedSoFar c text rest len due first name done) where
+  compare_done : s.left.rest ≡ [] → (b : Bool) → b ≡ eqb (length rest) 0 → IsTrue b ↔ (take len (bytes_from 33 c first) ≡ text)
+  compare_done e b is = (
+    λ yes. s.if_rest (nothing ∙ sym (nil_from_length rest (eqb-true (length rest) 0 (sym is ∙ yes)))),
+    λ same. is ∙ eq-eqb (length rest) 0 (ap length (sym (s.only same) ∙ nothing)),
+  )
+    where
+      nothing : take due (bytes_in c s.left.rest) ≡ []
+      nothing = ap (λ (l : List ℕ). take due (bytes_in c l)) e ∙ take_nil due
 
-pub compare_end : (c : Chunks) (text rest : List ℕ) (first name done : ℕ) → ComparedSoFar c text rest first name done → name ≡ none → (b : Bool) → b ≡ eqb (length rest) 0 → IsTrue b ↔ (take (length text) (bytes_from 33 c first) ≡ text)
-compare_end c text rest first name done s e b is = compare_done c text rest first name done s (left_none c name done s.left e) b is
+  pub compare_end : name ≡ none → (b : Bool) → b ≡ eqb (length rest) 0 → IsTrue b ↔ (take len (bytes_from 33 c first) ≡ text)
+  compare_end e b is = compare_done (left_none c name done s.left e) b is
 
-pub compare_over : (c : Chunks) (text rest : List ℕ) (first name done : ℕ) → ComparedSoFar c text rest first name done → 33 ≤ done → (b : Bool) → b ≡ eqb (length rest) 0 → IsTrue b ↔ (take (length text) (bytes_from 33 c first) ≡ text)
-compare_over c text rest first name done s ge b is = compare_done c text rest first name done s (left_over c name done s.left ge) b is
+  pub compare_over : 33 ≤ done → (b : Bool) → b ≡ eqb (length rest) 0 → IsTrue b ↔ (take len (bytes_from 33 c first) ≡ text)
+  compare_over ge b is = compare_done (left_over c name done s.left ge) b is
 
-pub compare_more : (c : Chunks) (text rest part : List ℕ) (first name done count : ℕ) → ComparedSoFar c text rest first name done → name ≢ none → part ≡ part_at c name → count ≡ min (length part) (length rest) → take count part ≡ take count rest → ComparedSoFar c text (drop count rest) first (next_at c name) (done + 1)
-compare_more c text rest part first name done count s some is least same =
-    let f : Further c name done s.left.rest = further c name done s.left.rest s.left.chain s.left.few some in
-    let m : Matches part (bytes_in c f.left.rest) rest count = matches part (bytes_in c f.left.rest) rest count least in
-    let here : bytes_in c s.left.rest ≡ part ++ bytes_in c f.left.rest = f.bytes ∙ ap (λ (x : List ℕ). x ++ bytes_in c f.left.rest) (sym is) in
-    record {
-      left = f.left;
-      only = λ e. (m.both (ap (take (length rest)) (sym here) ∙ s.only e)).1;
-      if_rest = λ e. s.if_rest (ap (take (length rest)) here ∙ m.from same e);
+  module _ (part : List ℕ) (count : ℕ) (some : name ≢ none) (is : part ≡ part_at c name) (least : count ≡ min (length part) due) where
+    next_block : Further c name done s.left.rest
+    next_block = further c name done s.left.rest s.left.chain s.left.few some
+
+    split : take due (bytes_in c s.left.rest) ≡ take count part ++ take (due - count) (bytes_in c next_block.left.rest)
+    split =
+        let here : bytes_in c s.left.rest ≡ part ++ bytes_in c next_block.left.rest = next_block.bytes ∙ ap (λ (x : List ℕ). x ++ bytes_in c next_block.left.rest) (sym is) in
+        ap (take due) here ∙ take_parts part (bytes_in c next_block.left.rest) due count least
+
+    own : take len (bytes_from 33 c first) ≡ text → Fronts (take count part) (take (due - count) (bytes_in c next_block.left.rest)) rest count
+    own e = fronts (take count part) (take (due - count) (bytes_in c next_block.left.rest)) rest count (length-take-le count part (omega (arith, least))) (sym split ∙ s.only e)
+
+    -- the rest is shorter than the part, or begins otherwise
+    pub compare_few : length rest < count → take len (bytes_from 33 c first) ≡ text → ⊥
+    compare_few few e = let enough : count ≤ length rest = (own e).few in omega (arith, few, enough)
+
+    pub compare_less : (take count part ≡ take count rest → ⊥) → take len (bytes_from 33 c first) ≡ text → ⊥
+    compare_less apart e = apart (own e).first
+
+    compare_more : take count part ≡ take count rest → ComparedSoFar c text (drop count rest) len (due - count) first (next_at c name) (done + 1)
+    compare_more same = record {
+      left = next_block.left;
+      only = λ e. (own e).later;
+      if_rest = λ e. s.if_rest (split ∙ (ap (λ (x : List ℕ). x ++ take (due - count) (bytes_in c next_block.left.rest)) same ∙ (ap (λ (x : List ℕ). take count rest ++ x) e ∙ take-append-drop count rest)));
     }
 
-pub compare_less : (c : Chunks) (text rest part : List ℕ) (first name done count : ℕ) → ComparedSoFar c text rest first name done → name ≢ none → part ≡ part_at c name → count ≡ min (length part) (length rest) → (take count part ≡ take count rest → ⊥) → take (length text) (bytes_from 33 c first) ≡ text → ⊥
-compare_less c text rest part first name done count s some is least apart e =
-    let f : Further c name done s.left.rest = further c name done s.left.rest s.left.chain s.left.few some in
-    let m : Matches part (bytes_in c f.left.rest) rest count = matches part (bytes_in c f.left.rest) rest count least in
-    let here : bytes_in c s.left.rest ≡ part ++ bytes_in c f.left.rest = f.bytes ∙ ap (λ (x : List ℕ). x ++ bytes_in c f.left.rest) (sym is) in
-    apart (m.both (ap (take (length rest)) (sym here) ∙ s.only e)).0
-
-pub compare_next : (c : Chunks) (text rest now part : List ℕ) (first name next done count : ℕ) → ComparedSoFar c text rest first name done → name ≢ none → part ≡ part_at c name → count ≡ min (length part) (length rest) → take count part ≡ take count rest → now ≡ drop count rest → next ≡ next_at c name → ComparedSoFar c text now first next (done + 1)
-compare_next c text rest now part first name next done count s some is least same behind to =
-    subst (λ (k : ℕ). ComparedSoFar c text now first k (done + 1)) (sym to)
-    (subst (λ (l : List ℕ). ComparedSoFar c text l first (next_at c name) (done + 1)) (sym behind) (compare_more c text rest part first name done count s some is least same))
+    pub compare_next : (now : List ℕ) (next : ℕ) → take count part ≡ take count rest → now ≡ drop count rest → next ≡ next_at c name → ComparedSoFar c text now len (due - count) first next (done + 1)
+    compare_next now next same behind to =
+        subst (λ (k : ℕ). ComparedSoFar c text now len (due - count) first k (done + 1)) (sym to)
+        (subst (λ (l : List ℕ). ComparedSoFar c text l len (due - count) first (next_at c name) (done + 1)) (sym behind) (compare_more same))
 
 pub not_true : IsTrue false → ⊥
 not_true f = both_ways false refl f

@@ -1,12 +1,12 @@
 -- Texts as chains of live blocks. A block's payload has 8 bytes for the name of the next block, all bits
 -- set in the last, and then up to 2,040 bytes of text; each block but the last is full.
-use Rattle.std.specs.Prelude.{◌≡◌, ◌≢◌, ℕ, zero, suc, ◌+◌, ◌-◌, ◌*◌, ◌/◌, ◌%◌, ◌^◌, ◌<◌, ◌≤◌, ◌==◌, Some, None, List, [], ◌∷◌, ◌++◌, length, take, drop, unwrap_or, if◌then◌else◌}
+use Rattle.std.specs.Prelude.{◌≡◌, ◌≢◌, ℕ, zero, suc, ◌+◌, ◌-◌, ◌*◌, ◌/◌, ◌%◌, ◌^◌, ◌<◌, ◌≤◌, ◌==◌, Some, None, List, [], ◌∷◌, ◌++◌, length, take, drop, unwrap_or, min, if◌then◌else◌}
 use Rattle.std.specs.List.{flat_map}
 use Rattle.vx_raw.specs.declared.place.Place.{Place}
-use Rattle.vx_arena.specs.Chunks.{Chunks}
+use Rattle.vx_arena.specs.Chunks.{Chunks, held_by}
 use Rattle.vx_arena.specs.Names.{name_of, none, live_at, lives}
 use Rattle.vx_arena.specs.Free.{class_len, next_in, IsIn}
-use Rattle.vx_arena.specs.Part.{class_for, Pays}
+use Rattle.vx_arena.specs.Part.{class_for, Pays, Takes}
 
 -- what contracts see of an arena: its blocks, and how many were taken and given modulo 2^64
 pub record ArenaModel : Type 0 where
@@ -72,6 +72,10 @@ bytes_from (suc most) chunks name = if name == none then [] else part_at chunks 
 abbrev pub bytes_at : ArenaModel → Place → List ℕ
 bytes_at arena place = bytes_from 33 arena.chunks (name_of place)
 
+-- the text of so many bytes at a place: how long it is its owner knows
+abbrev pub text_at : ArenaModel → Place → ℕ → List ℕ
+text_at arena place len = take len (bytes_at arena place)
+
 -- how many blocks the chain has that begins at a place
 unfoldable pub count_from : ℕ → Chunks → ℕ → ℕ
 count_from zero chunks name = 0
@@ -114,6 +118,21 @@ pub record CanFollow (chunks : Chunks) (name : ℕ) : Type 0 where
   pub live : name ≢ none → StandsLive chunks name
   pub first : IsUnnamed chunks name
 
+-- the blocks of a text of so many bytes were taken one after another, that of the last part first: each as its part
+-- asks, a free one or, where each free block was shorter than the part's class, one of a new chunk
+abbrev pub TakesBlocks : Chunks → Chunks → List ℕ → ℕ → Type 0
+TakesBlocks before after [] bytes = after ≡ before
+TakesBlocks before after (name ∷ rest) bytes = (middle : Chunks) × TakesBlocks before middle rest (bytes - 2040) × Takes (class_for (8 + min bytes 2040)) middle after name
+
+-- blocks for at most so many bytes were taken so; the chunks that were made for them are left
+pub record TakesSome (before after : Chunks) (most : ℕ) : Type 0 where
+  pub middle : Chunks
+  pub names : List ℕ
+  pub bytes : ℕ
+  pub within : bytes ≤ most
+  pub takes : TakesBlocks before middle names bytes
+  pub held : held_by after ≡ held_by middle
+
 -- one block more is live: it holds this part, and names this block
 pub record AddsPart (before after : ArenaModel) (name next : ℕ) (part : List ℕ) : Type 0 where
   pub fresh : live_at before.chunks name ≡ None
@@ -125,6 +144,7 @@ pub record AddsPart (before after : ArenaModel) (name next : ℕ) (part : List �
   pub others : (n : ℕ) → (n ≡ name → ⊥) → live_at after.chunks n ≡ live_at before.chunks n
   pub taken : after.taken ≡ more before.taken 1
   pub given : after.given ≡ before.given
+  pub takes : Takes (class_for (8 + length part)) before.chunks after.chunks name
   pub pays : Pays before.chunks after.chunks (block_bytes (length part))
 
 -- one block is live no more; the one that it named follows none now
@@ -150,6 +170,7 @@ pub record TakesText (before after : ArenaModel) (first : ℕ) (text : List ℕ)
   pub taken : after.taken ≡ more before.taken (blocks_of (length text))
   pub given : after.given ≡ before.given
   pub unnamed : IsUnnamed after.chunks first
+  pub takes : TakesBlocks before.chunks after.chunks names (length text)
   pub pays : Pays before.chunks after.chunks (cost_of (length text))
 
 -- no block is live that wasn't; what was taken was given back
@@ -158,6 +179,7 @@ pub record TakesNothing (before after : ArenaModel) (text : List ℕ) : Type 0 w
   pub blocks : ℕ
   pub taken : after.taken ≡ more before.taken blocks
   pub given : after.given ≡ more before.given blocks
+  pub takes : TakesSome before.chunks after.chunks (length text)
   pub pays : Pays before.chunks after.chunks (cost_of (length text))
 
 -- exactly the blocks of this chain are live no more, and all other live blocks are as they were

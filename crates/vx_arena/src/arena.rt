@@ -1,7 +1,7 @@
 ghost use Rattle.std.specs.Prelude.{◌≡◌, ◌≢◌, ◌+◌, ◌*◌, ◌^◌, ◌<◌, ◌≤◌, ◌↔◌, [], ◌++◌, IfOk, IfErr, OnErr, IsTrue, length, take, drop};
 ghost use Rattle.vx_arena.specs.Chunks.{held_by};
 ghost use Rattle.vx_arena.specs.Names.{name_of, none, lives};
-ghost use Rattle.vx_arena.specs.Text.{blocks_of, bytes_at, bytes_from, count_at, more, next_at, part_at, HasText, IsNew, IsText, KeepsOthers, KeepsTexts, Reads, StandsLive, IsUnnamed, CanFollow, AddsPart, GivesPart, HasChain, GivesAll, TakesText, TakesNothing};
+ghost use Rattle.vx_arena.specs.Text.{blocks_of, bytes_at, bytes_from, text_at, count_at, more, next_at, part_at, HasText, IsNew, IsText, KeepsOthers, KeepsTexts, Reads, StandsLive, IsUnnamed, CanFollow, AddsPart, GivesPart, HasChain, GivesAll, TakesText, TakesNothing};
 
 use crate::free::FreeBlocks;
 use crate::links::{NONE, name, place};
@@ -115,12 +115,12 @@ impl Arena {
         }
     }
 
-    /// Whether the text at this place begins with this one: it is the same where its owner knows that it is as long.
-    pub fn equals(&self, at: Place, text: &[u8]) -> bool
+    /// Whether the text of so many bytes at this place is this one.
+    pub fn equals(&self, at: Place, len: u64, text: &[u8]) -> bool
         requires { IsText self.now at }
-        ensures { IsTrue result ↔ Reads self.now at text.now }
+        ensures { IsTrue result ↔ (text_at self.now at len ≡ text.now) }
     {
-        self.chain_equals(name(at), text)
+        self.chain_equals(name(at), len as usize, text)
     }
 
     /// Gives each live block back, and frees all chunks.
@@ -232,22 +232,27 @@ impl Arena {
         Ok(())
     }
 
-    /// Whether the bytes of the chain from this block on begin with these.
-    fn chain_equals(&self, first: u64, text: &[u8]) -> bool
+    /// Whether so many bytes of the chain from this block on are these.
+    fn chain_equals(&self, first: u64, len: usize, text: &[u8]) -> bool
         requires { HasText self.now.chunks first }
-        ensures { IsTrue result ↔ (take (length text.now) (bytes_from 33 self.now.chunks first) ≡ text.now) }
+        ensures { IsTrue result ↔ (take len (bytes_from 33 self.now.chunks first) ≡ text.now) }
     {
         let mut name = first;
+        let mut due = len;
         let mut rest = text;
         for _block in 0..BLOCKS {
             if name == NONE {
                 return rest.is_empty();
             }
             let part = self.part(name);
-            let count = part.len().min(rest.len());
+            let count = part.len().min(due);
+            if count > rest.len() {
+                return false;
+            }
             if !same_front(part, rest, count) {
                 return false;
             }
+            due -= count;
             rest = behind(rest, count);
             name = self.next(name);
         }

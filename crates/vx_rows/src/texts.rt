@@ -218,5 +218,5 @@ fn is_long(arena: &Arena, text: &[u8], len: u32, front: &[u8], place: Place) -> 
     if &text[..4] != front {
         return false;
     }
-    arena.equals(place, text)
+    arena.equals(place, u64::from(len), text)
 }

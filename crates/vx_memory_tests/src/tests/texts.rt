@@ -29,7 +29,7 @@ fn so_many_bytes_are_read_as_are_wanted(rt: HostRuntime) -> Result<(), Fail> {
     assert_eq!(rt; read.as_slice(), b"thirteen byte".as_slice());
     arena.read_text(place, 8, &mut read)?;
     assert_eq!(rt; read.as_slice(), b"thirteen bytethirteen".as_slice());
-    assert!(rt; !arena.equals(place, b"thirteen bits"));
+    assert!(rt; !arena.equals(place, 13, b"thirteen bits"));
     Ok(())
 }
 
@@ -40,7 +40,7 @@ fn texts_stand_side_by_side(rt: HostRuntime) -> Result<(), Fail> {
     let second = arena.take_text(b"another text, a little longer")?;
     assert_eq!(rt; arena.held(), 4_096);
     arena.give_text(first);
-    assert!(rt; arena.equals(second, b"another text, a little longer"));
+    assert!(rt; arena.equals(second, 29, b"another text, a little longer"));
     assert_eq!(rt; arena.taken(), 2);
     assert_eq!(rt; arena.given(), 1);
     Ok(())
@@ -54,6 +54,6 @@ fn an_arena_that_is_cleared_holds_nothing(rt: HostRuntime) -> Result<(), Fail> {
     assert_eq!(rt; arena.held(), 0);
     assert_eq!(rt; arena.given(), 1);
     let place = arena.take_text(b"the next text is stored")?;
-    assert!(rt; arena.equals(place, b"the next text is stored"));
+    assert!(rt; arena.equals(place, 23, b"the next text is stored"));
     Ok(())
 }

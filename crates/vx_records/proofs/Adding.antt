@@ -14,8 +14,8 @@ pub record Adds (now : RecordsModel) (n : ℕ) (r : Record) (after : FramesModel
   pub adds : AddsRecord now (records_of after) n r
 
 -- a number that was free is used again
-again : (now : RecordsModel) (n : ℕ) (r : Record) → n < length now.records → n + 1 < 2 ^ 32 → record_in now n ≡ None → AddsRecord now (with_record now n r) n r
-again now n r lt fits none =
+again : (now : RecordsModel) (n : ℕ) (r : Record) → n < length now.records → n < 2 ^ 31 → record_in now n ≡ None → AddsRecord now (with_record now n r) n r
+again now n r lt low none =
     let same : length (with_record now n r).records ≡ length now.records = length-set now.records n (Some r) in
     record {
       len = refl;
@@ -27,12 +27,13 @@ again now n r lt fits none =
       next = λ is. absurd (omega (arith, lt, is));
       needed = λ is. absurd (omega (arith, lt, is));
       count = omega (arith, same);
-      fits = fits;
+      low = low;
+      fits = omega (arith, low);
     }
 
 -- the next number is used
-beyond : (now : RecordsModel) (n : ℕ) (r : Record) → n ≡ length now.records → n + 1 < 2 ^ 32 → HasNoFree now → AddsRecord now (and_record now r) n r
-beyond now n r is fits full =
+beyond : (now : RecordsModel) (n : ℕ) (r : Record) → n ≡ length now.records → n < 2 ^ 31 → HasNoFree now → AddsRecord now (and_record now r) n r
+beyond now n r is low full =
     let more : length (and_record now r).records ≡ length now.records + 1 = length_push now.records (Some r) in
     let last : length now.records ≡ n = sym is in
     record {
@@ -50,7 +51,8 @@ beyond now n r is fits full =
       next = λ _. refl;
       needed = λ _. full;
       count = omega (arith, more);
-      fits = fits;
+      low = low;
+      fits = omega (arith, low);
     }
 
 pub reuses : (m : FramesModel) (free : ℕ) (now : RecordsModel) (bytes : List ℕ) (r : Record) (after : FramesModel) → IsListed m free → records_of m ≡ now → free ≢ 0 → after ≡ with_frame m (free - 1) bytes → length bytes ≡ m.size → record_of bytes ≡ Some r → Adds now (free - 1) r after (link_in (frame_at m (free - 1)))

@@ -58,7 +58,8 @@ pub record AddsRecord (before after : RecordsModel) (number : ℕ) (new : Record
   pub next : number ≡ length before.records → after ≡ and_record before new
   pub needed : number ≡ length before.records → HasNoFree before
   pub count : length after.records ≤ length before.records + 1
-  -- a head spells one more than a number
+  -- at most 16 gibibytes of records; a head spells one more than a number
+  pub low : number < 2 ^ 31
   pub fits : number + 1 < 2 ^ 32
 
 -- how many records of so many bytes a chunk of 4,096 bytes holds, each with a head of 8

@@ -14,6 +14,7 @@ use Rattle.vx_rows.specs.Container.{AddsRow, ContainerModel, Gives, IsLive, Live
 use Rattle.vx_rows.specs.declared.fields.Extra.{Extra}
 use Rattle.vx_rows.specs.Texts.{text_cost}
 use Rattle.vx_rows.specs.Need.{texts_cost}
+use Rattle.vx_rows.proofs.CountLemmas.{Counted, counted_more, counted_none}
 use Rattle.vx_rows.proofs.NeedLaw.{cost_by_rows}
 use Rattle.vx_rows.proofs.Taking.{more_more}
 
@@ -90,6 +91,9 @@ adds_none columns c numbers none = record {
   there = λ k less. absurd (omega (arith, less));
   apart = λ j k before less. absurd (omega (arith, less));
   others = λ n apart. refl;
+  low = λ k less. absurd (omega (arith, less));
+  rows = (counted_none c.rows).rows;
+  all = (counted_none c.rows).all;
 }
 
 module _ (columns : List Column) (i number : ℕ) (before now after : ContainerModel) (numbers all : List ℕ) (adds : AddsRows columns i before now numbers) (one : AddsRow now.rows after.rows number (new_row now.extras (row_of columns i))) (extras : now.extras ≡ before.extras) (pushed : all ≡ numbers ++ number ∷ []) where
@@ -109,6 +113,9 @@ module _ (columns : List Column) (i number : ℕ) (before now after : ContainerM
   free_before : row_at before number ≡ None
   free_before = sym (adds.others number (λ k less e. fresh k less (sym e))) ∙ one.free
 
+  counted : Counted before.rows after.rows (i + 1)
+  counted = counted_more before.rows now.rows after.rows i number (new_row now.extras (row_of columns i)) (record { rows = adds.rows; all = adds.all }) one
+
   pub adds_more : AddsRows columns (i + 1) before after all
   adds_more = record {
     many = let was : length numbers ≡ i = adds.many in let now_is : length all ≡ length (numbers ++ number ∷ []) = ap length pushed in let sum : length (numbers ++ number ∷ []) ≡ length numbers + 1 = length-append numbers (number ∷ []) in omega (arith, was, now_is, sum);
@@ -120,6 +127,9 @@ module _ (columns : List Column) (i number : ℕ) (before now after : ContainerM
         (λ q lt low e. adds.apart j q low lt (sym (old_at j (omega (arith, low, lt))) ∙ (e ∙ old_at q lt)))
         (λ low e. fresh j low (sym (old_at j low) ∙ (e ∙ new_at))) k lt less;
     others = λ n not_there. one.others n (λ e. not_there i (omega arith) (e ∙ sym new_at)) ∙ adds.others n (λ k less e. not_there k (omega (arith, less)) (e ∙ sym (old_at k less)));
+    low = below_more _ _ (λ k less. subst (λ (n : ℕ). n < 2 ^ 31) (sym (old_at k less)) (adds.low k less)) (subst (λ (n : ℕ). n < 2 ^ 31) (sym new_at) one.low);
+    rows = counted.rows;
+    all = counted.all;
   }
 
 -- ---- one row less

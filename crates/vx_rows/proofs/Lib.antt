@@ -3,6 +3,7 @@ pub mod BatchLaw
 pub mod BodyLemmas
 pub mod ChangeLemmas
 pub mod ContainerLemmas
+pub mod CountLemmas
 pub mod EditLemmas
 pub mod FieldLemmas
 pub mod Filling

@@ -187,6 +187,7 @@ module _ (a d : ArenaModel) (columns : ℕ) (fields : List Extra) (before after 
         let below : n < length before.records = omega (arith, less, length-map before.records (live_in a columns fields)) in
         ap is_some (rows_at a columns fields before.records n) ∙ some_seen a columns fields (record_in before n) (adds.needed end n below);
     count = let few : length after.records ≤ length before.records + 1 = adds.count in omega (arith, few, length-map before.records (live_in a columns fields), length-map after.records (live_in d columns fields));
+    low = adds.low;
     fits = adds.fits;
   }
 

@@ -101,6 +101,14 @@ TakesValue (extra.Slot k) v = FitsKind k v
 abbrev pub live_numbers : List (Option LiveRow) → List ℕ
 live_numbers rows = filter (λ n. is_some (slice_index_or rows n None)) (range_with_len 0 (length rows))
 
+-- how many rows there are
+abbrev pub one_of : Option LiveRow → ℕ
+one_of None = 0
+one_of (Some row) = 1
+
+abbrev pub row_count : List (Option LiveRow) → ℕ
+row_count rows = sum_by one_of rows
+
 -- the values of these columns
 abbrev pub key_values : List ℕ → Row → List Value
 key_values columns row = map (value_at row) columns
@@ -173,6 +181,7 @@ pub record AddsRow (before after : List (Option LiveRow)) (number : ℕ) (row : 
   pub next : number ≡ length before → after ≡ before ++ Some row ∷ []
   pub needed : number ≡ length before → (n : ℕ) → n < length before → is_some (slice_index_or before n None) ≡ true
   pub count : length after ≤ length before + 1
+  pub low : number < 2 ^ 31
   pub fits : number + 1 < 2 ^ 32
 
 -- so many blocks were taken, and none was given

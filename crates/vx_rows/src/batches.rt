@@ -1,8 +1,8 @@
-ghost use Rattle.std.specs.Prelude.{◌≡◌, ◌≢◌, ℕ, ◌+◌, ◌<◌, ◌≤◌, length, slice_index, IfOk, OnErr};
+ghost use Rattle.std.specs.Prelude.{◌≡◌, ◌≢◌, ℕ, ◌+◌, ◌<◌, ◌≤◌, length, max, slice_index, IfOk, OnErr};
 ghost use Rattle.std.specs.List.{range_with_len, sum_by};
 ghost use Rattle.vx_vector.specs.Batch.{kinds_of};
 ghost use Rattle.vx_rows.specs.Batches.{AddsRows, Erases, blocks_of_rows};
-ghost use Rattle.vx_rows.specs.Container.{Gives, IsLive, Takes, TakesBack, blocks_of_row, live, row_at};
+ghost use Rattle.vx_rows.specs.Container.{Gives, IsLive, Takes, TakesBack, blocks_of_row, live, row_at, row_count};
 ghost use Rattle.vx_rows.specs.Layout.{fields_of};
 ghost use Rattle.vx_rows.specs.Need.{container_bytes, need_of, texts_cost};
 
@@ -19,6 +19,7 @@ impl RowContainer {
 
         // After an error each number has the row that it had, and what was taken was given back.
         ensures err { OnErr result ((n : ℕ) → row_at self.new n ≡ row_at self.old n) }
+        ensures many { OnErr result (length self.new.rows ≤ max (length self.old.rows) (row_count self.old.rows + batch.now.rows)) }
         ensures back { OnErr result (TakesBack self.old.arena self.new.arena (texts_cost batch.now.columns.items)) }
 
         // The chunks that were made are within the need, also after an error.

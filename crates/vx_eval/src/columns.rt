@@ -25,11 +25,11 @@ pub(crate) fn column_lanes<'a>(
     rows: &Selection,
     wanted: &[bool],
 ) -> Result<Cow<'a, Lanes>, AllocError>
-    requires there { IsOk (typing.kind_at (slice_get (kinds_of batch.now.columns.items) at)) }
+    requires there { IsOk (typing.kind_at (slice_get (kinds_of batch.now.columns) at)) }
     requires places { All (λ p. p < batch.now.rows) rows.now }
     requires wanted { length wanted.now ≡ length rows.now }
-    ensures kind { IfOk result (λ l. typing.kind_at (slice_get (kinds_of batch.now.columns.items) at) ≡ Ok (kind_of (cow_value l))) }
-    ensures each { IfOk result (λ l. GivesWhere wanted.now (length rows.now) (λ k. got.Value (unwrap_or (slice_get (row_of batch.now.columns.items (get_or rows.now k 0)) at) Value.Null)) (cow_value l)) }
+    ensures kind { IfOk result (λ l. typing.kind_at (slice_get (kinds_of batch.now.columns) at) ≡ Ok (kind_of (cow_value l))) }
+    ensures each { IfOk result (λ l. GivesWhere wanted.now (length rows.now) (λ k. got.Value (unwrap_or (slice_get (row_of batch.now.columns (get_or rows.now k 0)) at) Value.Null)) (cow_value l)) }
 {
     vector_lanes(alloc, &batch.columns[at as usize], rows, wanted)
 }

@@ -25,10 +25,10 @@ pub fn eval(
     batch: &Batch,
     rows: &Selection,
 ) -> Result<(Vector, FaultMask), AllocError>
-    requires types { IsOk (type_of e.now (kinds_of batch.now.columns.items)) }
+    requires types { IsOk (type_of e.now (kinds_of batch.now.columns)) }
     requires literals { IsTrue (literals_fit e.now) }
     requires places { All (λ p. p < batch.now.rows) rows.now }
-    ensures { IfOk result (λ r. Evaluates e.now batch.now.columns.items rows.now r.0 r.1) }
+    ensures { IfOk result (λ r. Evaluates e.now batch.now.columns rows.now r.0 r.1) }
 {
     let wanted = filled(alloc, true, rows.places().len())?;
     let lanes = owned_lanes_of(alloc, e, batch, rows, wanted.as_slice())?;
@@ -44,10 +44,10 @@ fn owned_lanes_of(
     rows: &Selection,
     wanted: &[bool],
 ) -> Result<Lanes, AllocError>
-    requires ready { IsReady batch.now.columns.items e.now }
+    requires ready { IsReady batch.now.columns e.now }
     requires places { All (λ p. p < batch.now.rows) rows.now }
     requires wanted { length wanted.now ≡ length rows.now }
-    ensures { IfOk result (Evaluated batch.now.columns.items rows.now wanted.now e.now) }
+    ensures { IfOk result (Evaluated batch.now.columns rows.now wanted.now e.now) }
 {
     Lanes::owned(alloc, lanes_of(alloc, e, batch, rows, wanted)?)
 }
@@ -62,10 +62,10 @@ pub(crate) fn lanes_of<'a>(
     rows: &Selection,
     wanted: &[bool],
 ) -> Result<Cow<'a, Lanes>, AllocError>
-    requires ready { IsReady batch.now.columns.items e.now }
+    requires ready { IsReady batch.now.columns e.now }
     requires places { All (λ p. p < batch.now.rows) rows.now }
     requires wanted { length wanted.now ≡ length rows.now }
-    ensures { IfOk result (λ l. Evaluated batch.now.columns.items rows.now wanted.now e.now (cow_value l)) }
+    ensures { IfOk result (λ l. Evaluated batch.now.columns rows.now wanted.now e.now (cow_value l)) }
 {
     match e {
         Expr::Column(at) => column_lanes(alloc, batch, *at, rows, wanted),
@@ -93,10 +93,10 @@ fn lanes_of_call(
     rows: &Selection,
     wanted: &[bool],
 ) -> Result<Lanes, AllocError>
-    requires ready { AreReady batch.now.columns.items func args.now }
+    requires ready { AreReady batch.now.columns func args.now }
     requires places { All (λ p. p < batch.now.rows) rows.now }
     requires wanted { length wanted.now ≡ length rows.now }
-    ensures { IfOk result (EvaluatedCall batch.now.columns.items rows.now wanted.now func args.now) }
+    ensures { IfOk result (EvaluatedCall batch.now.columns rows.now wanted.now func args.now) }
 {
     match args {
         [a] => {

@@ -18,7 +18,7 @@ const ROWS: u32 = 16_384;
 pub struct Part {
     pub batch: Batch,
     pub rows: Selection,
-    ghost columns: { kinds_of batch.columns.items ≡ kinds },
+    ghost columns: { kinds_of batch.columns ≡ kinds },
     ghost places: { All (λ p. p < batch.rows) rows },
 }
 

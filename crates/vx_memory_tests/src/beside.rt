@@ -25,7 +25,7 @@ fn words(alloc: Global, roll: u32) -> Result<String, AllocError> {
 
 /// The row of a roll: its number and its text.
 fn row_of(alloc: Global, roll: u32) -> Result<Batch, AllocError>
-    ensures kinds { IfOk result (λ batch. kinds_of batch.columns.items ≡ kinds.Int ∷ kinds.Text ∷ []) }
+    ensures kinds { IfOk result (λ batch. kinds_of batch.columns ≡ kinds.Int ∷ kinds.Text ∷ []) }
     ensures rows { IfOk result (λ batch. batch.rows ≡ 1) }
 {
     let words = words(alloc, roll)?;

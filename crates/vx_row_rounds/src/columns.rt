@@ -30,7 +30,7 @@ impl Table {
 
 /// The batch: ints from 0, and beside them ints from 1,000 or texts of 20 bytes.
 pub fn batch_of(alloc: Global, table: Table) -> Result<Batch, AllocError>
-    ensures kinds { IfOk result (λ b. AreTwo b.columns.items) }
+    ensures kinds { IfOk result (λ b. AreTwo b.columns) }
     ensures rows { IfOk result (λ b. b.rows ≡ 1000) }
 {
     let first = ints(alloc, 0)?;

@@ -17,7 +17,7 @@ pub fn add_all(
     batch: &Batch,
 ) -> Result<(), AllocError>
     requires kept { AreKept container.old.rows numbers.old.items }
-    requires kinds { kinds_of batch.now.columns.items ≡ container.old.kinds }
+    requires kinds { kinds_of batch.now.columns ≡ container.old.kinds }
     requires rows { batch.now.rows ≡ 1000 }
     ensures kept { AreKept container.new.rows numbers.new.items }
     ensures kinds { container.new.kinds ≡ container.old.kinds }

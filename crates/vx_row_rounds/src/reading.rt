@@ -42,8 +42,8 @@ fn worth(cell: &Value) -> u64 {
 /// are equal.
 pub fn count_equal(container: &RowContainer, numbers: &[u32], batch: &Batch) -> u64
     requires kept { AreKept container.now.rows numbers.now }
-    requires two { AreTwo batch.now.columns.items }
-    requires kinds { kinds_of batch.now.columns.items ≡ container.now.kinds }
+    requires two { AreTwo batch.now.columns }
+    requires kinds { kinds_of batch.now.columns ≡ container.now.kinds }
     requires rows { batch.now.rows ≡ 1000 }
 {
     let both = [0, 1];

@@ -17,9 +17,9 @@ pub struct Rounds {
     batch: Batch,
     numbers: Vec<u32>,
     ghost kept: { AreKept container.rows numbers.items },
-    ghost kinds: { kinds_of batch.columns.items ≡ container.kinds },
+    ghost kinds: { kinds_of batch.columns ≡ container.kinds },
     ghost rows: { batch.rows ≡ 1000 },
-    ghost two: { AreTwo batch.columns.items },
+    ghost two: { AreTwo batch.columns },
 }
 
 impl Rounds {

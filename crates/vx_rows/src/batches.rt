@@ -13,17 +13,17 @@ use vx_vector::Batch;
 impl RowContainer {
     /// Adds all rows of a batch or none, and answers their numbers in the batch's order.
     pub fn add_all(&mut self, alloc: Global, batch: &Batch) -> Result<Vec<u32>, AllocError>
-        requires { kinds_of batch.now.columns.items ≡ self.old.kinds }
-        ensures ok { IfOk result (λ numbers. AddsRows batch.now.columns.items batch.now.rows self.old self.new numbers.items) }
-        ensures takes { IfOk result (λ _. Takes self.old.arena self.new.arena (blocks_of_rows self.old.extras batch.now.columns.items (range_with_len 0 batch.now.rows)) (texts_cost batch.now.columns.items)) }
+        requires { kinds_of batch.now.columns ≡ self.old.kinds }
+        ensures ok { IfOk result (λ numbers. AddsRows batch.now.columns batch.now.rows self.old self.new numbers.items) }
+        ensures takes { IfOk result (λ _. Takes self.old.arena self.new.arena (blocks_of_rows self.old.extras batch.now.columns (range_with_len 0 batch.now.rows)) (texts_cost batch.now.columns)) }
 
         // After an error each number has the row that it had, and what was taken was given back.
         ensures err { OnErr result ((n : ℕ) → row_at self.new n ≡ row_at self.old n) }
         ensures many { OnErr result (length self.new.rows ≤ max (length self.old.rows) (row_count self.old.rows + batch.now.rows)) }
-        ensures back { OnErr result (TakesBack self.old.arena self.new.arena (texts_cost batch.now.columns.items)) }
+        ensures back { OnErr result (TakesBack self.old.arena self.new.arena (texts_cost batch.now.columns)) }
 
         // The chunks that were made are within the need, also after an error.
-        ensures within { container_bytes self.new ≤ container_bytes self.old + need_of (fields_of self.old.kinds self.old.extras) batch.now.columns.items batch.now.rows }
+        ensures within { container_bytes self.new ≤ container_bytes self.old + need_of (fields_of self.old.kinds self.old.extras) batch.now.columns batch.now.rows }
         ensures kinds { self.new.kinds ≡ self.old.kinds }
         ensures extras { self.new.extras ≡ self.old.extras }
     {

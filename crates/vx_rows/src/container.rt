@@ -70,15 +70,15 @@ impl RowContainer {
 
     /// Adds a row of a batch, and answers its number.
     pub fn add(&mut self, batch: &Batch, row: u32) -> Result<u32, AllocError>
-        requires kinds { kinds_of batch.now.columns.items ≡ self.old.kinds }
+        requires kinds { kinds_of batch.now.columns ≡ self.old.kinds }
         requires row { row < batch.now.rows }
-        ensures ok { IfOk result (λ number. AddsRow self.old.rows self.new.rows number (new_row self.old.extras (row_of batch.now.columns.items row))) }
+        ensures ok { IfOk result (λ number. AddsRow self.old.rows self.new.rows number (new_row self.old.extras (row_of batch.now.columns row))) }
         ensures there { IfOk result (λ number. IsLive self.new number) }
-        ensures takes { IfOk result (λ _. Takes self.old.arena self.new.arena (blocks_of_row (new_row self.old.extras (row_of batch.now.columns.items row))) (sum_by text_cost (row_of batch.now.columns.items row))) }
+        ensures takes { IfOk result (λ _. Takes self.old.arena self.new.arena (blocks_of_row (new_row self.old.extras (row_of batch.now.columns row))) (sum_by text_cost (row_of batch.now.columns row))) }
 
         // After an error no row has changed, and what was taken was given back.
         ensures err { OnErr result (self.new.rows ≡ self.old.rows) }
-        ensures back { OnErr result (TakesBack self.old.arena self.new.arena (sum_by text_cost (row_of batch.now.columns.items row))) }
+        ensures back { OnErr result (TakesBack self.old.arena self.new.arena (sum_by text_cost (row_of batch.now.columns row))) }
         ensures kinds { self.new.kinds ≡ self.old.kinds }
         ensures extras { self.new.extras ≡ self.old.extras }
     {
@@ -139,8 +139,8 @@ impl RowContainer {
 
     /// How many bytes of chunks a put of all rows of a batch takes at most.
     pub fn need_of(&self, batch: &Batch) -> u64
-        requires { kinds_of batch.now.columns.items ≡ self.now.kinds }
-        ensures { result ≡ need_of (fields_of self.now.kinds self.now.extras) batch.now.columns.items batch.now.rows }
+        requires { kinds_of batch.now.columns ≡ self.now.kinds }
+        ensures { result ≡ need_of (fields_of self.now.kinds self.now.extras) batch.now.columns batch.now.rows }
     {
         let _columns = &self.columns;
         need::need_of(&self.layout, batch)
@@ -221,8 +221,8 @@ impl RowContainer {
         requires at { at < batch.now.rows }
         requires many { length columns.now ≡ length of.now }
         requires columns { All (λ c. c < length self.now.kinds) columns.now }
-        requires of { All (λ c. c < length batch.now.columns.items) of.now }
-        ensures { IsTrue result ↔ (key_values columns.now (live self.now row).cells ≡ key_values of.now (row_of batch.now.columns.items at)) }
+        requires of { All (λ c. c < length batch.now.columns) of.now }
+        ensures { IsTrue result ↔ (key_values columns.now (live self.now row).cells ≡ key_values of.now (row_of batch.now.columns at)) }
     {
         let body = self.records.body(row);
         for place in 0..columns.len() {

@@ -19,8 +19,8 @@ const BLOCK: u64 = 2056;
 
 /// How many bytes of chunks a put of all rows of a batch takes at most.
 pub(crate) fn need_of(layout: &Layout, batch: &Batch) -> u64
-    requires { HasColumns layout.now (kinds_of batch.now.columns.items) }
-    ensures { result ≡ need_of layout.now batch.now.columns.items batch.now.rows }
+    requires { HasColumns layout.now (kinds_of batch.now.columns) }
+    ensures { result ≡ need_of layout.now batch.now.columns batch.now.rows }
 {
     let _bytes = layout.bytes();
     let cost = texts_cost(&batch.columns, batch.rows);

@@ -94,11 +94,11 @@ pub(crate) fn fill(
 ) -> Result<(), AllocError>
     requires body { length body.old ≡ body_len layout.now }
     requires empty { all_stored layout.now body.old ≡ empty_of layout.now }
-    requires columns { HasColumns layout.now (kinds_of batch.now.columns.items) }
+    requires columns { HasColumns layout.now (kinds_of batch.now.columns) }
     requires row { at < batch.now.rows }
-    ensures ok { IfOk result (λ _. Fills arena.old arena.new (empty_of layout.now) (all_stored layout.now body.new) (row_of batch.now.columns.items at)) }
+    ensures ok { IfOk result (λ _. Fills arena.old arena.new (empty_of layout.now) (all_stored layout.now body.new) (row_of batch.now.columns at)) }
     ensures len { length body.new ≡ length body.old }
-    ensures err { OnErr result (Keeps arena.old arena.new (sum_by text_cost (row_of batch.now.columns.items at))) }
+    ensures err { OnErr result (Keeps arena.old arena.new (sum_by text_cost (row_of batch.now.columns at))) }
 {
     let (_taken, _fields) = (arena.taken(), layout.count());
     for which in 0..batch.columns.len() as u32 {

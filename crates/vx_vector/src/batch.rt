@@ -1,21 +1,30 @@
-ghost use Rattle.std.specs.Prelude.{◌≡◌, length, All, IfOk};
+ghost use Rattle.std.specs.Prelude.{◌≡◌, IfOk};
 
 use crate::vector::Vector;
 use std::alloc::{AllocError, Global};
+use std::marker::Model;
 
 /// Columns of `rows` values each.
 #[derive(Debug, Drop)]
 pub struct Batch {
     pub columns: Vec<Vector>,
     pub rows: u32,
-    ghost even: { All (λ c. length c.values ≡ rows) columns.items },
+}
+
+impl Model for Batch {
+    ghost use Rattle.vx_vector.specs.Batch.{BatchModel, batch_of, IsEven};
+
+    ghost Value = { BatchModel };
+
+    ghost view = { λ b. batch_of b.columns.items b.rows };
+
+    ghost invariant = { λ b. IsEven (batch_of b.columns.items b.rows) };
 }
 
 impl Batch {
     /// The same columns, in memory of their own.
     pub fn copy(&self, alloc: Global) -> Result<Batch, AllocError>
-        ensures columns { IfOk result (λ b. b.columns.items ≡ self.now.columns.items) }
-        ensures rows { IfOk result (λ b. b.rows ≡ self.now.rows) }
+        ensures { IfOk result (λ b. b ≡ self.now) }
     {
         let columns = copy_all(alloc, self.columns.as_slice())?;
         Ok(Batch {

@@ -11,7 +11,7 @@ use vx_vector::{Batch, Vector};
 
 /// So many rows of the same text.
 fn texts(alloc: Global, text: &[u8; 13], rows: u32) -> Result<Batch, AllocError>
-    ensures { IfOk result (λ batch. kinds_of batch.columns.items ≡ kinds.Text ∷ []) }
+    ensures { IfOk result (λ batch. kinds_of batch.columns ≡ kinds.Text ∷ []) }
 {
     let Ok(words) = std::str::from_utf8(text) else {
         return Err(AllocError);

@@ -22,7 +22,7 @@ fn one_row(
     requires least { FitsKind kinds.Int least.now }
     requires text { FitsKind kinds.Text text.now }
     requires most { FitsKind kinds.Int most.now }
-    ensures kinds { IfOk result (λ batch. kinds_of batch.columns.items ≡ kinds.Bool ∷ kinds.Int ∷ kinds.Text ∷ kinds.Int ∷ []) }
+    ensures kinds { IfOk result (λ batch. kinds_of batch.columns ≡ kinds.Bool ∷ kinds.Int ∷ kinds.Text ∷ kinds.Int ∷ []) }
     ensures rows { IfOk result (λ batch. batch.rows ≡ 1) }
 {
     let first = Vector::constant(alloc, Kind::Bool, flag, 1)?;

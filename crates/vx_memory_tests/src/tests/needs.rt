@@ -11,7 +11,7 @@ use vx_vector::{Batch, Vector};
 
 /// So many rows of one text of so many bytes.
 fn texts(alloc: Global, len: usize, rows: u32) -> Result<Batch, AllocError>
-    ensures { IfOk result (λ batch. kinds_of batch.columns.items ≡ kinds.Text ∷ []) }
+    ensures { IfOk result (λ batch. kinds_of batch.columns ≡ kinds.Text ∷ []) }
 {
     let words = "a".repeat(alloc, len)?;
     if words.len() > 65_535 {

@@ -12,7 +12,7 @@ use vx_vector::{Batch, Vector};
 
 /// One row with a text.
 fn one_text(alloc: Global, words: &str) -> Result<Batch, AllocError>
-    ensures kinds { IfOk result (λ batch. kinds_of batch.columns.items ≡ kinds.Text ∷ []) }
+    ensures kinds { IfOk result (λ batch. kinds_of batch.columns ≡ kinds.Text ∷ []) }
     ensures rows { IfOk result (λ batch. batch.rows ≡ 1) }
 {
     if words.len() > 65_535 {
@@ -36,7 +36,7 @@ fn add_text(rows: &mut RowContainer, alloc: Global, words: &str) -> Result<u32, 
 
 /// One row with an int or a null.
 fn one_int(alloc: Global, value: Option<i64>) -> Result<Batch, AllocError>
-    ensures kinds { IfOk result (λ batch. kinds_of batch.columns.items ≡ kinds.Int ∷ []) }
+    ensures kinds { IfOk result (λ batch. kinds_of batch.columns ≡ kinds.Int ∷ []) }
     ensures rows { IfOk result (λ batch. batch.rows ≡ 1) }
 {
     let column = match value {

@@ -8,4 +8,4 @@ returns c =
     λ (k : ℕ) (h : k < length c.args.rows.now).
     let inside : k < length c.places.result.now = rw c.places.ensures.places h in
     rw c.as_slice.ensures.value (c.in_ok-wanted.ensures.at k false inside) in
-    evaluates c.args.e.now c.args.batch.now.columns.items c.args.rows.now c.as_slice.result.now c.in_ok-lanes.lanes c.of_lanes.result c.in_ok-faults.faults c.in_ok-lanes.ensures all c.of_lanes.ensures c.in_ok-faults.ensures.told c.in_ok-faults.ensures.others
+    evaluates c.args.e.now c.args.batch.now.columns c.args.rows.now c.as_slice.result.now c.in_ok-lanes.lanes c.of_lanes.result c.in_ok-faults.faults c.in_ok-lanes.ensures all c.of_lanes.ensures c.in_ok-faults.ensures.told c.in_ok-faults.ensures.others

@@ -9,5 +9,5 @@ use Rattle.vx_rows.proofs.texts.fill.Given as goal
 abbrev pub invariant-loop-which : goal.invariant-loop-which
 invariant-loop-which l = record {
   len : length l.body ≡ body_len l.layout;
-  filled : FilledSoFar l.initial.arena l.arena (empty_of l.layout) (all_stored l.layout l.body) (row_of l.batch.columns.items l.at) l.which;
+  filled : FilledSoFar l.initial.arena l.arena (empty_of l.layout) (all_stored l.layout l.body) (row_of l.batch.columns l.at) l.which;
 }

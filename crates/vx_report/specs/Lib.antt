@@ -1,4 +1,5 @@
 pub mod Ascending
+pub mod Digests
 pub mod Logs
 pub mod Notes
 pub mod Sections

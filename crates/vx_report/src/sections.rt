@@ -55,7 +55,7 @@ fn push_rows(text: &mut Vec<u8>, rows: &[Row]) -> Result<(), AllocError>
     push_lines(text, rows)
 }
 
-fn push_lines(text: &mut Vec<u8>, rows: &[Row]) -> Result<(), AllocError>
+pub(crate) fn push_lines(text: &mut Vec<u8>, rows: &[Row]) -> Result<(), AllocError>
     ensures { OnOk result (text.new.items ≡ text.old.items ++ flat_map spec.row_line rows.now) }
 {
     let mut line = Line::new();
@@ -73,7 +73,7 @@ fn push_line(text: &mut Vec<u8>, line: &mut Line, row: &Row) -> Result<(), Alloc
     Ok(())
 }
 
-fn push_error(text: &mut Vec<u8>, cause: &Cause) -> Result<(), AllocError>
+pub(crate) fn push_error(text: &mut Vec<u8>, cause: &Cause) -> Result<(), AllocError>
     ensures { OnOk result (text.new.items ≡ text.old.items ++ spec.error_line cause.now) }
 {
     text.extend_from_slice(b"error ")?;

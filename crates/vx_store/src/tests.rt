@@ -103,3 +103,31 @@ fn a_reader_gives_the_bytes_that_are_asked_for(rt: HostRuntime) -> Result<(), Fa
     );
     Ok(())
 }
+
+#[test]
+fn two_real_files_grow_in_turn_and_one_goes(rt: HostRuntime) -> Result<(), Fail> {
+    let alloc = rt.alloc();
+    let _ = fs::remove_dir_all(&rt, FOLDER);
+    let mut store = FolderStore::new(alloc, rt, 8);
+    let first = store.create()?;
+    let second = store.create()?;
+    for _ in 0..3 {
+        assert!(rt; store.append(first, b"ab").is_ok());
+        assert!(rt; store.append(second, b"xyz").is_ok());
+    }
+    assert_eq!(rt;
+        fs::read(&rt, "vxspill/8-0.bin")?.as_slice(),
+        b"ababab".as_slice()
+    );
+    assert_eq!(rt;
+        fs::read(&rt, "vxspill/8-1.bin")?.as_slice(),
+        b"xyzxyzxyz".as_slice()
+    );
+    assert_eq!(rt; store.remove(first), Ok(()));
+    assert!(rt; fs::read(&rt, "vxspill/8-0.bin").is_err());
+    assert_eq!(rt; store.faults(), 0);
+    fs::remove_dir_all(&rt, FOLDER)?;
+    assert_eq!(rt; store.append(second, b"xyz"), Err(StoreError::Failed));
+    assert_eq!(rt; store.faults(), 1);
+    Ok(())
+}

@@ -3,6 +3,8 @@
 #![tactic(auto)]
 
 #[cfg(test)]
+mod lying;
+#[cfg(test)]
 mod tests;
 
 use anyhow::{Context, Result};

@@ -6,10 +6,11 @@ ghost use Rattle.vx_page.specs.declared.cell.Cell.TheVariants as cell;
 ghost use Rattle.vx_page.specs.declared.cell.Slot.TheVariants as slot;
 ghost use Rattle.vx_page.specs.Page.{HasShape, body};
 
+use crate::lying::LyingStore;
 use std::alloc::{AllocError, Global};
 use std::test::Fail;
 use vx_page::{Cell, PageError, PageRow, Sealed, Slot, read_page, write_page};
-use vx_store::MemoryStore;
+use vx_store::{MemoryStore, Store};
 use vx_value::{Kind, Value};
 
 const INTS: [Slot; 1] = [Slot::Value(Kind::Int)];
@@ -93,9 +94,9 @@ fn failing_call(alloc: Global, number: u64) -> Result<(u64, u64, u64), AllocErro
     Ok((failed, sealed.faults(), sealed.appended()))
 }
 
-fn calls_until_one_fails(
+fn calls_until_one_fails<S: Store + Drop>(
     alloc: Global,
-    sealed: &mut Sealed<MemoryStore>,
+    sealed: &mut Sealed<S>,
 ) -> Result<u64, AllocError> {
     let rows = vec![in alloc; int_row(alloc, Some(5))?]?;
     let Ok(file) = sealed.create() else {
@@ -121,5 +122,32 @@ fn a_sealed_store_counts_each_failing_call(rt: HostRuntime) -> Result<(), Fail> 
     assert_eq!(rt; failing_call(alloc, 2)?, (2, 1, 17));
     assert_eq!(rt; failing_call(alloc, 3)?, (3, 1, 17));
     assert_eq!(rt; failing_call(alloc, 4)?, (4, 0, 17));
+    Ok(())
+}
+
+/// Which of the four calls fails over a store that turns these bits of its reads, and how many faults are
+/// counted then.
+fn call_that_a_lie_fails(alloc: Global, place: usize, mask: u8) -> Result<(u64, u64), AllocError> {
+    let store = LyingStore {
+        bytes: Vec::new(alloc),
+        created: 0,
+        place,
+        mask,
+    };
+    let mut sealed = Sealed::new(alloc, store);
+    let failed = calls_until_one_fails(alloc, &mut sealed)?;
+    Ok((failed, sealed.faults()))
+}
+
+#[test]
+fn a_turned_bit_fails_the_read_and_adds_one_fault(rt: HostRuntime) -> Result<(), Fail> {
+    let alloc = rt.alloc();
+    assert_eq!(rt; call_that_a_lie_fails(alloc, 0, 0)?, (4, 0));
+    for place in 0..17 {
+        for mask in [1, 2, 4, 8, 16, 32, 64, 128] {
+            let failed = call_that_a_lie_fails(alloc, place, mask)?;
+            assert_eq!(rt; failed, (2, 1), "of byte {place}, bits {mask}");
+        }
+    }
     Ok(())
 }

@@ -1,9 +1,10 @@
 -- What a run over a named file did, put together from what its parts did.
-use Rattle.std.proofs.Common.{◌≡◌, ℕ, Bool, true, false, List, [], Option, Some, None, IfSome, option_and_then, if◌then◌else◌, Result, Ok, Err, OnOk, IfOk, IfErr, refl, subst, inr, rules}
+use Rattle.std.proofs.Common.{◌≡◌, ℕ, Bool, true, false, List, [], Option, Some, None, IfSome, option_and_then, if◌then◌else◌, Result, Ok, Err, OnOk, OnErr, IfOk, IfErr, refl, subst, inr, rules}
 use Rattle.std.specs.List.{slice_index_or}
 use Rattle.vx_words.specs.Settings.{Settings}
 use Rattle.vx_engine.specs.Words.{AsksForUnbuilt, asks_for_unbuilt, file_of}
-use Rattle.vx_base.specs.Told.{gained, GainsSome}
+use Rattle.vx_base.specs.Told.{gained}
+use Rattle.vx_host.specs.Sink.{GainsPart}
 use Rattle.vx_host.specs.Views.{SinkView, FilesView}
 use Rattle.vx_plan.specs.declared.node.Plan.{Plan}
 use Rattle.vx_meaning.specs.declared.outcome.SlowAnswer.{SlowAnswer}
@@ -35,7 +36,7 @@ Means-from plan (slow.Fault node row code) is fault = fault
 -- a run that has an answer ends as its printing does
 pub ends_by_printing : (before after : FilesView) (out out' : SinkView) (name : List ℕ) (answer : SlowAnswer) (result : Result Printed Stop) → IsAnswerOf before name answer
     → IfOk result (λ printed. printed ≡ printed_of answer)
-    → OnOk result (out'.taken ≡ gained out.taken (section_text name answer)) → GainsSome out.taken out'.taken (section_text name answer) → IfErr result (StopsPrinting out out')
+    → OnOk result (out'.taken ≡ gained out.taken (section_text name answer)) → OnErr result (GainsPart out.taken out'.taken (section_text name answer)) → IfErr result (StopsPrinting out out')
     → Ends before after out out' name result
 ends_by_printing before after out out' name answer (Ok printed) is same whole front stops = ends_whole before after out out' name answer printed is same whole
 ends_by_printing before after out out' name answer (Err NotWritten) is same whole front stops = (stops, record { answer = answer; is = is; front = front })
@@ -47,7 +48,7 @@ ends_by_printing before after out out' name answer (Err (Refused refusal)) is sa
 -- the same, where the loading left the output as it was
 pub ends_after_loading : (before after : FilesView) (out loaded out' : SinkView) (name : List ℕ) (plan : Plan) (answer : SlowAnswer) (result : Result Printed Stop) → loaded ≡ out → IsPlanOf before name (Ok plan) → Means plan answer
     → IfOk result (λ printed. printed ≡ printed_of answer)
-    → OnOk result (out'.taken ≡ gained loaded.taken (section_text name answer)) → GainsSome loaded.taken out'.taken (section_text name answer) → IfErr result (StopsPrinting loaded out')
+    → OnOk result (out'.taken ≡ gained loaded.taken (section_text name answer)) → OnErr result (GainsPart loaded.taken out'.taken (section_text name answer)) → IfErr result (StopsPrinting loaded out')
     → Ends before after out out' name result
 ends_after_loading before after out loaded out' name plan answer result unmoved is means same whole front stops =
     let Outcome : SinkView → Type 0 = λ o. Ends before after o out' name result in
@@ -55,19 +56,15 @@ ends_after_loading before after out loaded out' name plan answer result unmoved 
     subst Outcome unmoved (ends_by_printing before after loaded out' name answer result of_file same whole front stops)
 
 -- what a run over a named file did is what a run of that status does
-pub IsRun-from_Ran : (Said : SinkView → SinkView → List ℕ → Type 0) (named : Option (List ℕ)) (files files' : FilesView) (out out' err err' : SinkView) (name : List ℕ) (result : Result Printed Stop) (status : ℕ)
-    → named ≡ Some name → status ≡ status_of_run result → Ran Said files files' out out' err err' name result → IsRun Said named files files' out out' err err' status
-IsRun-from_Ran Said named files files' out out' err err' name (Ok Rows) status is ends ran = rw (is, ends) (search rules)
-IsRun-from_Ran Said named files files' out out' err err' name (Ok Fault) status is ends ran = rw (is, ends) (search rules)
-IsRun-from_Ran Said named files files' out out' err err' name (Err NotRead) status is ends ran = rw (is, ends) (search rules)
-IsRun-from_Ran Said named files files' out out' err err' name (Err TooBig) status is ends ran = rw (is, ends) (search rules)
-IsRun-from_Ran Said named files files' out out' err err' name (Err (Refused refusal)) status is ends ran = rw (is, ends) (search rules)
-IsRun-from_Ran Said named files files' out out' err err' name (Err NotWritten) status is ends ran = rw (is, ends) (search rules)
-IsRun-from_Ran Said named files files' out out' err err' name (Err NoMemory) status is ends ran = rw (is, ends) (search rules)
-
-pub OnOk-then : {A E P Q : Type 0} (r : Result A E) → (P → Q) → OnOk r P → OnOk r Q
-OnOk-then (Ok a) f p = f p
-OnOk-then (Err e) f p = tt
+pub IsRun-from_Ran : (named : Option (List ℕ)) (files files' : FilesView) (out out' err err' : SinkView) (name : List ℕ) (result : Result Printed Stop) (status : ℕ)
+    → named ≡ Some name → status ≡ status_of_run result → Ran files files' out out' err err' name result → IsRun named files files' out out' err err' status
+IsRun-from_Ran named files files' out out' err err' name (Ok Rows) status is ends ran = rw (is, ends) (search rules)
+IsRun-from_Ran named files files' out out' err err' name (Ok Fault) status is ends ran = rw (is, ends) (search rules)
+IsRun-from_Ran named files files' out out' err err' name (Err NotRead) status is ends ran = rw (is, ends) (search rules)
+IsRun-from_Ran named files files' out out' err err' name (Err TooBig) status is ends ran = rw (is, ends) (search rules)
+IsRun-from_Ran named files files' out out' err err' name (Err (Refused refusal)) status is ends ran = rw (is, ends) (search rules)
+IsRun-from_Ran named files files' out out' err err' name (Err NotWritten) status is ends ran = rw (is, ends) (search rules)
+IsRun-from_Ran named files files' out out' err err' name (Err NoMemory) status is ends ran = rw (is, ends) (search rules)
 
 -- no file is run only where the settings ask for what isn't built, or there are none, and there always
 pub unnamed_only : (asked : Option Settings) → option_and_then file_of asked ≡ None → IfSome asked AsksForUnbuilt

@@ -5,7 +5,7 @@ use Rattle.vx_host.specs.Views.{SinkView, FilesView}
 use Rattle.vx_host.specs.Host.{IsAbsent, IsTooBig, KeepsFiles}
 use Rattle.vx_plan.specs.declared.node.Plan.{Plan}
 use Rattle.vx_json.specs.Outcome.{said_of}
-use Rattle.vx_engine.specs.Run.{file_limit, IsPlanOf, PrintsRows, PrintsFault, PrintsFront, GoesOn}
+use Rattle.vx_engine.specs.Run.{file_limit, IsPlanOf, PrintsRows, PrintsFault, PrintsFront, Says, GoesOn}
 use Rattle.vx_engine.specs.Stop.{status_of, line_of}
 use Rattle.vx_meaning.specs.declared.outcome.SlowAnswer.{SlowAnswer}
 use Rattle.vx_meaning.specs.declared.outcome.SlowAnswer.TheVariants as slow
@@ -57,18 +57,18 @@ status_of_run (Ok Fault) = 1
 status_of_run (Err stop) = status_of stop
 
 -- what a run that ended so did to err
-abbrev pub Reports : (SinkView → SinkView → List ℕ → Type 0) → SinkView → SinkView → List ℕ → Result Printed Stop → Type 0
-Reports Said err err' name (Ok printed) = err' ≡ err
-Reports Said err err' name (Err NotRead) = Said err err' (line_of name NotRead)
-Reports Said err err' name (Err TooBig) = Said err err' (line_of name TooBig)
-Reports Said err err' name (Err (Refused refusal)) = Said err err' (line_of name (Refused refusal))
-Reports Said err err' name (Err NotWritten) = err' ≡ err
-Reports Said err err' name (Err NoMemory) = Said err err' (line_of name NoMemory)
+abbrev pub Reports : SinkView → SinkView → List ℕ → Result Printed Stop → Type 0
+Reports err err' name (Ok printed) = err' ≡ err
+Reports err err' name (Err NotRead) = Says err err' (line_of name NotRead)
+Reports err err' name (Err TooBig) = Says err err' (line_of name TooBig)
+Reports err err' name (Err (Refused refusal)) = Says err err' (line_of name (Refused refusal))
+Reports err err' name (Err NotWritten) = err' ≡ err
+Reports err err' name (Err NoMemory) = Says err err' (line_of name NoMemory)
 
 -- all that a run over a named file did
-pub record Ran (Said : SinkView → SinkView → List ℕ → Type 0) (files files' : FilesView) (out out' err err' : SinkView) (name : List ℕ) (result : Result Printed Stop) : Type 0 where
+pub record Ran (files files' : FilesView) (out out' err err' : SinkView) (name : List ℕ) (result : Result Printed Stop) : Type 0 where
   pub ends : Ends files files' out out' name result
-  pub reports : Reports Said err err' name result
+  pub reports : Reports err err' name result
   pub files_stay : KeepsFiles files files'
   pub files_later : files.faults ≤ files'.faults
   pub out_later : GoesOn out out'

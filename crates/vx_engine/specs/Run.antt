@@ -2,9 +2,10 @@
 use Rattle.std.specs.Prelude.{◌≡◌, ◌≢◌, ◌⊎◌, ℕ, ◌<◌, ◌≤◌, ◌==◌, List, [], ◌∷◌, ◌++◌, length, codes, Bool, true, ⊤, Option, Some, None, IfSome, IsSomeAnd, option_map, option_and_then, Result, Ok, Err}
 use Rattle.std.specs.List.{list_any}
 use Rattle.vx_base.specs.Causes.{Rose}
-use Rattle.vx_base.specs.Told.{gained, GainsSome}
+use Rattle.vx_base.specs.Told.{gained}
 use Rattle.vx_host.specs.Views.{SinkView, FilesView}
 use Rattle.vx_host.specs.Host.{Stands, IsTooBig, KeepsFiles}
+use Rattle.vx_host.specs.Sink.{GainsPart}
 use Rattle.vx_plan.specs.declared.node.Plan.{Plan}
 use Rattle.vx_value.specs.Row.{Row}
 use Rattle.vx_expr.specs.declared.outcome.Fault.{Fault}
@@ -76,35 +77,32 @@ pub record PrintsFault (files : FilesView) (out out' : SinkView) (name : List �
   pub code : Fault
   pub prints : Prints files out out' name (Faults node row code)
 
--- out gained a front of the section of rows or a fault
+-- out gained a front of the section of rows or a fault, and not the whole
 pub record PrintsFront (files : FilesView) (out out' : SinkView) (name : List ℕ) : Type 0 where
   pub answer : SlowAnswer
   pub is : IsAnswerOf files name answer
-  pub front : GainsSome out.taken out'.taken (section_text name answer)
+  pub front : GainsPart out.taken out'.taken (section_text name answer)
 
--- err gained the line, or a front of it
-abbrev pub Says : SinkView → SinkView → List ℕ → Type 0
-Says err err' line = GainsSome err.taken err'.taken line
+-- err gained the whole line, or less of it where a write to it failed or wanted memory
+pub data Says (err err' : SinkView) (line : List ℕ) : Type 0 where
+  whole : err'.taken ≡ gained err.taken line → Says err err' line
+  cut : GainsPart err.taken err'.taken line → Rose err.faults err'.faults ⊎ Rose err.wants err'.wants → Says err err' line
 
--- err gained the whole line
-abbrev pub SaysWhole : SinkView → SinkView → List ℕ → Type 0
-SaysWhole err err' line = err'.taken ≡ gained err.taken line
-
--- The file wasn't read, and the line says why: its read failed, or it is too big. `Said` is how much of the
--- line err gained, here and below.
-pub data SaysUnread (Said : SinkView → SinkView → List ℕ → Type 0) (files files' : FilesView) (err err' : SinkView) (name : List ℕ) : Type 0 where
-  failed : Rose files.faults files'.faults → Said err err' (file_line name (codes "cannot be read")) → SaysUnread Said files files' err err' name
-  too_big : IsTooBig files name file_limit → Said err err' (file_line name (codes "too big")) → SaysUnread Said files files' err err' name
+-- the file wasn't read, and the line says why: its read failed, or it is too big
+pub data SaysUnread (files files' : FilesView) (err err' : SinkView) (name : List ℕ) : Type 0 where
+  failed : Rose files.faults files'.faults → Says err err' (file_line name (codes "cannot be read")) → SaysUnread files files' err err' name
+  too_big : IsTooBig files name file_limit → Says err err' (file_line name (codes "too big")) → SaysUnread files files' err err' name
 
 -- the file's bytes are refused, and the line names the refusal
-pub record SaysRefusal (Said : SinkView → SinkView → List ℕ → Type 0) (files : FilesView) (err err' : SinkView) (name : List ℕ) : Type 0 where
+pub record SaysRefusal (files : FilesView) (err err' : SinkView) (name : List ℕ) : Type 0 where
   pub refusal : Refusal
   pub read : IsPlanOf files name (Err (said_of refusal))
-  pub said : Said err err' (file_line name (refusal_text refusal))
+  pub said : Says err err' (file_line name (refusal_text refusal))
 
--- a sink's count doesn't fall, and where no call is still to fail, none is afterwards
+-- a sink's counts don't fall, and where no call is still to fail, none is afterwards
 pub record GoesOn (before after : SinkView) : Type 0 where
   pub later : before.faults ≤ after.faults
+  pub wants : before.wants ≤ after.wants
   pub unfailing : before.unfailing ≡ true → after.unfailing ≡ true
 
 -- the statuses that there are
@@ -112,21 +110,21 @@ abbrev pub is_status : ℕ → Bool
 is_status status = list_any (λ known. status == known) (0 ∷ 1 ∷ 2 ∷ 3 ∷ 4 ∷ 5 ∷ 6 ∷ [])
 
 -- What a run did, by its status. The top call has the same statements as clauses of these names.
-pub record IsRun (Said : SinkView → SinkView → List ℕ → Type 0) (named : Option (List ℕ)) (files files' : FilesView) (out out' err err' : SinkView) (status : ℕ) : Type 0 where
+pub record IsRun (named : Option (List ℕ)) (files files' : FilesView) (out out' err err' : SinkView) (status : ℕ) : Type 0 where
   pub statuses : is_status status ≡ true
   pub bad_words : status ≡ 2 → named ≡ None
   pub bad_words_always : named ≡ None → status ≢ 5 → status ≡ 2
-  pub bad_words_said : status ≡ 2 → Said err err' bad_words_line
-  pub not_read : status ≡ 6 → IsSomeAnd named (SaysUnread Said files files' err err')
+  pub bad_words_said : status ≡ 2 → Says err err' bad_words_line
+  pub not_read : status ≡ 6 → IsSomeAnd named (SaysUnread files files' err err')
   pub unreadable_only : status ≡ 6 → files.unfailing ≡ true → IfSome (told_file files named) IsUnreadable
   pub unreadable : IsSomeAnd (told_file files named) IsUnreadable → status ≢ 5 → status ≡ 6
-  pub refused : status ≡ 3 → IsSomeAnd named (SaysRefusal Said files err err')
+  pub refused : status ≡ 3 → IsSomeAnd named (SaysRefusal files err err')
   pub refused_always : IsSomeAnd (told_file files named) IsRefused → status ≢ 5 → status ≢ 6 → status ≡ 3
   pub not_written : status ≡ 4 → Rose out.faults out'.faults
   pub written : out.unfailing ≡ true → status ≢ 4
   pub cut_short : status ≡ 4 → IsSomeAnd named (PrintsFront files out out')
   pub out_of_memory : status ≡ 5 → (out' ≡ out) ⊎ IsSomeAnd named (PrintsFront files out out')
-  pub out_of_memory_said : status ≡ 5 → Said err err' no_memory_line
+  pub out_of_memory_said : status ≡ 5 → Says err err' no_memory_line
   pub printed : status ≡ 0 → IsSomeAnd named (PrintsRows files out out')
   pub faulted : status ≡ 1 → IsSomeAnd named (PrintsFault files out out')
   pub untouched : (status ≡ 2) ⊎ (status ≡ 3) ⊎ (status ≡ 6) → out' ≡ out

@@ -10,7 +10,6 @@
 mod load;
 mod print;
 mod run;
-mod section;
 mod stop;
 mod top;
 mod words;

@@ -24,6 +24,9 @@ pub const NO_MEMORY: u8 = 5;
 /// The file couldn't be read, or it is too big.
 pub const NOT_READ: u8 = 6;
 
+/// What is said where memory ran out. It takes none.
+pub(crate) const NO_MEMORY_LINE: &str = "vxrun: out of memory\n";
+
 /// Why a run stopped: one variant a cause.
 #[derive(Debug, Drop)]
 pub(crate) enum Stop {
@@ -117,7 +120,7 @@ impl Stop {
             Stop::TooBig => file_line(alloc, name, "too big"),
             Stop::Refused(refusal) => refused_line(alloc, name, refusal),
             Stop::NotWritten => Ok(String::new(alloc)),
-            Stop::NoMemory => String::from_str(alloc, "vxrun: out of memory\n"),
+            Stop::NoMemory => String::from_str(alloc, NO_MEMORY_LINE),
         }
     }
 }

@@ -17,7 +17,8 @@ use vx_host::{Gate, Host};
 /// Runs the plan file that the words name, and answers the program's status.
 ///
 /// Word 0 is the program's name. The host's output gets `== 0 NAME` and then `ok N` and N rows as compact
-/// JSON, or the fault that the plan met; or its errors get one line. Each line is ended by a line feed. That a write to the errors fails changes nothing.
+/// JSON, or the fault that the plan met; or its errors get one line. Each line is ended by a line feed. That a write to the
+/// errors fails changes nothing, and the line is whole where none failed or wanted memory.
 /// `rt` and the gate are for the workers of later commands; nothing is started or waited for today.
 pub fn vxrun<R: Threads + Wait + Sync, H: Host, G: Gate + Sync>(
     _rt: &R,
@@ -37,7 +38,7 @@ pub fn vxrun<R: Threads + Wait + Sync, H: Host, G: Gate + Sync>(
 
     // A file isn't read only where its read failed or it is too big, and the line says which.
     ensures not_read { result ≡ NOT_READ → IsSomeAnd (name_of words.now)
-        (SaysUnread Says (H.files host.old) (H.files host.new) (H.sink host.old Errors) (H.sink host.new Errors)) }
+        (SaysUnread (H.files host.old) (H.files host.new) (H.sink host.old Errors) (H.sink host.new Errors)) }
     // Where no read is to fail, that is exactly where nothing or too much stands under the name.
     ensures unreadable_only { result ≡ NOT_READ → (H.files host.old).unfailing ≡ true
         → IfSome (told_file (H.files host.old) (name_of words.now)) IsUnreadable }
@@ -46,7 +47,7 @@ pub fn vxrun<R: Threads + Wait + Sync, H: Host, G: Gate + Sync>(
 
     // A file that was read is refused exactly where its bytes are no plan, and the line says why.
     ensures refused { result ≡ REFUSED → IsSomeAnd (name_of words.now)
-        (SaysRefusal Says (H.files host.old) (H.sink host.old Errors) (H.sink host.new Errors)) }
+        (SaysRefusal (H.files host.old) (H.sink host.old Errors) (H.sink host.new Errors)) }
     ensures refused_always { IsSomeAnd (told_file (H.files host.old) (name_of words.now)) IsRefused
         → result ≢ NO_MEMORY → result ≢ NOT_READ → result ≡ REFUSED }
 
@@ -79,5 +80,5 @@ pub fn vxrun<R: Threads + Wait + Sync, H: Host, G: Gate + Sync>(
     ensures out_later { GoesOn (H.sink host.old Output) (H.sink host.new Output) }
     ensures err_later { GoesOn (H.sink host.old Errors) (H.sink host.new Errors) }
 {
-    run_words(alloc, words, host).status
+    run_words(alloc, words, host)
 }

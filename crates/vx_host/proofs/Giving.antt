@@ -16,6 +16,7 @@ pub record HasGiven {H : Type 0} (files : H → FilesView) (sink : H → To → 
   pub rest_is : rest ≡ drop count piece
   pub front : (sink now to).taken ≡ gained (sink before to).taken (take count piece)
   pub later : (sink before to).faults ≤ (sink now to).faults
+  pub wants : (sink before to).wants ≤ (sink now to).wants
   pub unfailing : (sink before to).unfailing ≡ true → (sink now to).unfailing ≡ true
   pub others : WritesOnly files sink to before now
 
@@ -29,16 +30,18 @@ pub gives_on : {H : Type 0} {files : H → FilesView} {sink : H → To → SinkV
     → HasGiven files sink to before now piece rest
     → Takes (sink now to) (sink after to) rest count
     → (sink now to).faults ≤ (sink after to).faults
+    → (sink now to).wants ≤ (sink after to).wants
     → ((sink now to).unfailing ≡ true → (sink after to).unfailing ≡ true)
     → WritesOnly files sink to now after
     → HasGiven files sink to before after piece (take (length rest - count) (drop count rest))
-gives_on {sink = sink} {to = to} {before = before} {now = now} {after = after} {piece = piece} {rest = rest} {count = count} given took later stays others = record {
+gives_on {sink = sink} {to = to} {before = before} {now = now} {after = after} {piece = piece} {rest = rest} {count = count} given took later wants stays others = record {
   count = given.count + count;
   within = (let left : length rest ≡ length piece - given.count = ap length given.rest_is ∙ length-drop given.count piece in omega (arith, took.within));
   rest_is = take_rest rest count ∙ ap (λ (l : List ℕ). drop count l) given.rest_is ∙ drop-drop count given.count piece;
   front = (let both : gained (sink now to).taken (take count rest) ≡ gained (gained (sink before to).taken (take given.count piece)) (take count (drop given.count piece)) = cc (given.front, given.rest_is) in
       took.front ∙ both ∙ gained-append (sink before to).taken (take given.count piece) (take count (drop given.count piece)) ∙ ap (gained (sink before to).taken) (sym (take-add given.count count piece)));
   later = omega (arith, given.later);
+  wants = omega (arith, given.wants);
   unfailing = λ no_fault. stays (given.unfailing no_fault);
   others = record { same_files = others.same_files ∙ given.others.same_files; other_sink = others.other_sink ∙ given.others.other_sink };
 }

@@ -14,27 +14,28 @@ use Rattle.vx_host.specs.declared.memory_host.StoreFail.{StoreFail}
 use Rattle.vx_host.specs.declared.host.To.TheVariants.{Output, Errors}
 
 -- A sink: the bytes that it has taken, the most that it takes in one call, the numbers of the calls that
--- fail, how many calls were made, and how many of them failed.
+-- fail, how many calls were made, how many of them failed, and how many wanted memory.
 pub record SinkMemory : Type 0 where
   pub taken : List ℕ
   pub most : ℕ
   pub fails : List ℕ
   pub calls : ℕ
   pub faults : ℕ
+  pub wants : ℕ
 
 -- a sink that nobody has called yet
 abbrev pub new_sink : ℕ → List ℕ → SinkMemory
-new_sink most fails = record { taken = []; most = most; fails = fails; calls = 0; faults = 0 }
+new_sink most fails = record { taken = []; most = most; fails = fails; calls = 0; faults = 0; wants = 0 }
 
 -- a sink after a call of `write` with this piece and this answer
 abbrev pub after_write : SinkMemory → List ℕ → Result ℕ SinkError → SinkMemory
 after_write s piece (Ok count) = record s { taken = s.taken ++ take count piece; calls = counted s.calls }
 after_write s piece (Err sink_error.Failed) = record s { calls = counted s.calls; faults = counted s.faults }
-after_write s piece (Err sink_error.NoMemory) = record s { calls = counted s.calls }
+after_write s piece (Err sink_error.NoMemory) = record s { calls = counted s.calls; wants = counted s.wants }
 
 -- what a sink tells: its bytes, and that no call is still to fail once its list is behind it
 abbrev pub sink_view : SinkMemory → SinkView
-sink_view s = record { taken = Some s.taken; faults = s.faults; unfailing = none_to_fail s.fails s.calls }
+sink_view s = record { taken = Some s.taken; faults = s.faults; wants = s.wants; unfailing = none_to_fail s.fails s.calls }
 
 -- A host: its files, each a name and its bytes, the numbers of the reads that fail, how many reads were
 -- made, how many of them failed, its two sinks, and the jobs and numbers of the calls of stores that fail.

@@ -23,8 +23,13 @@ faults_after_read faults (Err read_error.Failed) = counted faults
 faults_after_read faults (Err (read_error.TooBig at)) = faults
 faults_after_read faults (Err read_error.NoMemory) = faults
 
--- the count of faults after a write with this answer
+-- the count of faults after a write with this answer, and that of wants of memory
 abbrev pub faults_after_write : ℕ → Result ℕ SinkError → ℕ
 faults_after_write faults (Ok count) = faults
 faults_after_write faults (Err sink_error.Failed) = counted faults
 faults_after_write faults (Err sink_error.NoMemory) = faults
+
+abbrev pub wants_after_write : ℕ → Result ℕ SinkError → ℕ
+wants_after_write wants (Ok count) = wants
+wants_after_write wants (Err sink_error.Failed) = wants
+wants_after_write wants (Err sink_error.NoMemory) = counted wants

@@ -6,9 +6,9 @@ use Rattle.vx_host.specs.declared.host.To.TheVariants.{Output, Errors}
 use Rattle.vx_host.specs.declared.stream.Stream.{Stream}
 use Rattle.vx_host.specs.declared.real.RealHost.{RealHost}
 
--- what a stream tells: its faults alone
+-- what a stream tells: its counts alone
 abbrev pub stream_view : {W : Type 0} → Stream W → SinkView
-stream_view s = record { taken = None; faults = s.faults; unfailing = false }
+stream_view s = record { taken = None; faults = s.faults; wants = s.wants; unfailing = false }
 
 -- what a real host tells of its files: its faults alone
 abbrev pub real_files : {F O E : Type 0} → RealHost F O E → FilesView
@@ -24,6 +24,10 @@ abbrev pub written : {F O E : Type 0} → (O → Option (List ℕ)) → (E → O
 written of_out of_err h Output = of_out h.out.writer
 written of_out of_err h Errors = of_err h.err.writer
 
+-- a stream whose counts are 0
+abbrev pub IsFreshStream : {W : Type 0} → Stream W → Type 0
+IsFreshStream s = (s.faults ≡ 0) × (s.wants ≡ 0)
+
 -- a host whose counts are all 0
 abbrev pub IsFresh : {F O E : Type 0} → RealHost F O E → Type 0
-IsFresh h = (h.faults ≡ 0) × (h.out.faults ≡ 0) × (h.err.faults ≡ 0)
+IsFresh h = (h.faults ≡ 0) × IsFreshStream h.out × IsFreshStream h.err

@@ -6,7 +6,7 @@ use thiserror::Error;
 pub enum SinkError {
     /// The outside failed; the sink's count of faults has risen.
     Failed,
-    /// Memory ran out.
+    /// Memory ran out; the sink's count of wants has risen.
     NoMemory,
 }
 

@@ -59,6 +59,7 @@ pub trait Host {
         ensures ok { IfOk result (Takes (sink self.old to) (sink self.new to) piece.now) }
         ensures err { OnErr result ((sink self.new to).taken ≡ (sink self.old to).taken) }
         ensures cause { HasCause (λ e. e ≡ SinkError.Failed) (sink self.old to).faults (sink self.new to).faults result }
+        ensures wanted { HasCause (λ e. e ≡ SinkError.NoMemory) (sink self.old to).wants (sink self.new to).wants result }
         ensures unfailing { StaysUnfailing (sink self.old to) (sink self.new to) result }
         ensures others { WritesOnly files sink to self.old self.new }
         ensures stores { stores_unfailing self.old ≡ true → stores_unfailing self.new ≡ true };
@@ -66,4 +67,8 @@ pub trait Host {
     /// How many writes to that sink have failed; it stays at the last `u64`.
     fn sink_faults(&self, to: To) -> u64
         ensures { result ≡ (sink self.now to).faults };
+
+    /// How many writes to that sink wanted memory; it stays at the last `u64`.
+    fn sink_wants(&self, to: To) -> u64
+        ensures { result ≡ (sink self.now to).wants };
 }

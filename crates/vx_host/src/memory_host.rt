@@ -144,6 +144,7 @@ impl Host for MemoryHost {
         ensures ok { IfOk result (Takes (sink_view_at self.old to) (sink_view_at self.new to) piece.now) }
         ensures err { OnErr result ((sink_view_at self.new to).taken ≡ (sink_view_at self.old to).taken) }
         ensures cause { HasCause (λ e. e ≡ SinkError.Failed) (sink_view_at self.old to).faults (sink_view_at self.new to).faults result }
+        ensures wanted { HasCause (λ e. e ≡ SinkError.NoMemory) (sink_view_at self.old to).wants (sink_view_at self.new to).wants result }
         ensures unfailing { StaysUnfailing (sink_view_at self.old to) (sink_view_at self.new to) result }
         ensures others { WritesOnly files_view sink_view_at to self.old self.new }
 
@@ -164,6 +165,13 @@ impl Host for MemoryHost {
         match to {
             To::Output => self.out.faults(),
             To::Errors => self.err.faults(),
+        }
+    }
+
+    fn sink_wants(&self, to: To) -> u64 {
+        match to {
+            To::Output => self.out.wants(),
+            To::Errors => self.err.wants(),
         }
     }
 }

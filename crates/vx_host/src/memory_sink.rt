@@ -5,7 +5,7 @@ ghost use Rattle.vx_host.specs.Sink.{Takes, StaysUnfailing};
 
 use crate::error::SinkError;
 use crate::sink::Sink;
-use std::alloc::Global;
+use std::alloc::{AllocError, Global};
 use std::marker::Model;
 use vx_store::Script;
 
@@ -15,6 +15,7 @@ pub struct MemorySink {
     taken: Vec<u8>,
     most: u32,
     script: Script,
+    wants: u64,
 }
 
 impl Model for MemorySink {
@@ -23,7 +24,7 @@ impl Model for MemorySink {
 
     ghost Value = { SinkMemory };
 
-    ghost view = { λ s. record { taken = s.taken.items; most = s.most; fails = s.script.fails.items; calls = s.script.calls; faults = s.script.faults } };
+    ghost view = { λ s. record { taken = s.taken.items; most = s.most; fails = s.script.fails.items; calls = s.script.calls; faults = s.script.faults; wants = s.wants } };
 
     ghost invariant = { λ s. 1 ≤ s.most };
 }
@@ -39,6 +40,7 @@ impl MemorySink {
             taken: Vec::new(alloc),
             most,
             script: Script::new(fails),
+            wants: 0,
         }
     }
 
@@ -57,6 +59,7 @@ impl Sink for MemorySink {
         ensures ok { IfOk result (Takes (sink_view self.old) (sink_view self.new) piece.now) }
         ensures err { OnErr result ((sink_view self.new).taken ≡ (sink_view self.old).taken) }
         ensures cause { HasCause (λ e. e ≡ SinkError.Failed) (sink_view self.old).faults (sink_view self.new).faults result }
+        ensures wanted { HasCause (λ e. e ≡ SinkError.NoMemory) (sink_view self.old).wants (sink_view self.new).wants result }
         ensures unfailing { StaysUnfailing (sink_view self.old) (sink_view self.new) result }
 
         // It fails exactly at the listed calls, and else takes as much as it may.
@@ -68,11 +71,20 @@ impl Sink for MemorySink {
             return Err(SinkError::Failed);
         }
         let count = piece.len().min(self.most as usize);
-        self.taken.extend_from_slice(&piece[..count])?;
-        Ok(count)
+        match self.taken.extend_from_slice(&piece[..count]) {
+            Ok(()) => Ok(count),
+            Err(AllocError) => {
+                self.wants = self.wants.saturating_add(1);
+                Err(SinkError::NoMemory)
+            }
+        }
     }
 
     fn faults(&self) -> u64 {
         self.script.faults
+    }
+
+    fn wants(&self) -> u64 {
+        self.wants
     }
 }

@@ -2,7 +2,7 @@ ghost use Rattle.std.specs.Prelude.{◌≡◌, ◌≤◌, length, true, false, I
 ghost use Rattle.std.specs.Io.KnownBytes.{WriteAppends};
 ghost use Rattle.vx_base.specs.Causes.{HasCause};
 ghost use Rattle.vx_host.specs.Host.{other, Stands, IsReadErrorOf, KeepsFiles, WritesOnly};
-ghost use Rattle.vx_host.specs.Reading.{faults_after_read, faults_after_write};
+ghost use Rattle.vx_host.specs.Reading.{faults_after_read, faults_after_write, wants_after_write};
 ghost use Rattle.vx_host.specs.Real.{real_files, real_sink, written, IsFresh};
 ghost use Rattle.vx_host.specs.Sink.{Takes, StaysUnfailing};
 ghost use Rattle.vx_host.specs.Stores.{IsFreshStore, IsSafeStore};
@@ -45,10 +45,12 @@ impl<F: Files + Drop, O: io::Write + Drop, E: io::Write + Drop> RealHost<F, O, E
             out: Stream {
                 writer: out,
                 faults: 0,
+                wants: 0,
             },
             err: Stream {
                 writer: err,
                 faults: 0,
+                wants: 0,
             },
         }
     }
@@ -116,6 +118,7 @@ impl<F: Files + Copy + Send + Drop, O: io::Write, E: io::Write> Host for RealHos
         ensures ok { IfOk result (Takes (real_sink self.old to) (real_sink self.new to) piece.now) }
         ensures err { OnErr result ((real_sink self.new to).taken ≡ (real_sink self.old to).taken) }
         ensures cause { HasCause (λ e. e ≡ SinkError.Failed) (real_sink self.old to).faults (real_sink self.new to).faults result }
+        ensures wanted { HasCause (λ e. e ≡ SinkError.NoMemory) (real_sink self.old to).wants (real_sink self.new to).wants result }
         ensures unfailing { StaysUnfailing (real_sink self.old to) (real_sink self.new to) result }
         ensures others { WritesOnly real_files real_sink to self.old self.new }
 
@@ -123,6 +126,7 @@ impl<F: Files + Copy + Send + Drop, O: io::Write, E: io::Write> Host for RealHos
         ensures written { WriteAppends (written O.contents E.contents self.old to) (written O.contents E.contents self.new to) result piece.now }
         ensures other { written O.contents E.contents self.new (other to) ≡ written O.contents E.contents self.old (other to) }
         ensures faults { (real_sink self.new to).faults ≡ faults_after_write (real_sink self.old to).faults result }
+        ensures wants { (real_sink self.new to).wants ≡ wants_after_write (real_sink self.old to).wants result }
     {
         match to {
             To::Output => self.out.write(piece),
@@ -134,6 +138,13 @@ impl<F: Files + Copy + Send + Drop, O: io::Write, E: io::Write> Host for RealHos
         match to {
             To::Output => self.out.faults(),
             To::Errors => self.err.faults(),
+        }
+    }
+
+    fn sink_wants(&self, to: To) -> u64 {
+        match to {
+            To::Output => self.out.wants(),
+            To::Errors => self.err.wants(),
         }
     }
 }

@@ -9,7 +9,7 @@ use crate::error::SinkError;
 ///
 /// After an error nothing more was taken.
 pub trait Sink {
-    /// What the sink has taken, its faults, and whether a call is still to fail.
+    /// What the sink has taken, its counts, and whether a call is still to fail.
     ghost state: { Self → SinkView };
 
     /// Takes the first bytes of the piece, at least one where there is one, and answers how many.
@@ -17,9 +17,14 @@ pub trait Sink {
         ensures ok { IfOk result (Takes (state self.old) (state self.new) piece.now) }
         ensures err { OnErr result ((state self.new).taken ≡ (state self.old).taken) }
         ensures cause { HasCause (λ e. e ≡ SinkError.Failed) (state self.old).faults (state self.new).faults result }
+        ensures wanted { HasCause (λ e. e ≡ SinkError.NoMemory) (state self.old).wants (state self.new).wants result }
         ensures unfailing { StaysUnfailing (state self.old) (state self.new) result };
 
     /// How many calls have failed; it stays at the last `u64`.
     fn faults(&self) -> u64
         ensures { result ≡ (state self.now).faults };
+
+    /// How many calls wanted memory; it stays at the last `u64`.
+    fn wants(&self) -> u64
+        ensures { result ≡ (state self.now).wants };
 }

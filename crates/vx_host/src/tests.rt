@@ -134,11 +134,13 @@ fn an_interrupted_write_is_tried_again(rt: HostRuntime) -> Result<(), Fail> {
         Err(SinkError::NoMemory)
     );
     assert_eq!(rt; host.sink_faults(To::Output), 1);
+    assert_eq!(rt; host.sink_wants(To::Output), 1);
     assert_eq!(rt;
         give_all(&mut host, To::Output, b"ab"),
         Err(SinkError::Failed)
     );
     assert_eq!(rt; host.sink_faults(To::Output), 2);
+    assert_eq!(rt; host.sink_wants(To::Output), 1);
     Ok(())
 }
 

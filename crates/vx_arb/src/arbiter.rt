@@ -338,7 +338,7 @@ impl<L: Names> Arb<L> {
 
     /// Whether a request can be granted: its job's max allows what the job would have, and that is free.
     pub fn is_met(&self, request: &Request) -> bool
-        ensures value { result ≡ is_met self.now request.now }
+        ensures is { result ≡ is_met self.now request.now }
         ensures rule { IsBooks self.now }
     {
         if request.would() > max_for(&self.live, request.job()) {
@@ -349,7 +349,7 @@ impl<L: Names> Arb<L> {
 
     /// Whether a request may abort a job: no smaller way is left.
     pub fn may_abort(&self, request: &Request, job: u32) -> bool
-        ensures value { result ≡ is_unmet self.now request.now job }
+        ensures is { result ≡ is_unmet self.now request.now job }
         ensures rule { IsBooks self.now }
     {
         if request.would() > max_for(&self.live, request.job()) {
@@ -360,7 +360,7 @@ impl<L: Names> Arb<L> {
 
     /// The whole capacity.
     pub fn total(&self) -> u64
-        ensures value { result ≡ self.now.total }
+        ensures is { result ≡ self.now.total }
         ensures rule { IsBooks self.now }
     {
         self.total
@@ -368,7 +368,7 @@ impl<L: Names> Arb<L> {
 
     /// The capacity that no job has.
     pub fn free(&self) -> u64
-        ensures value { result ≡ self.now.free }
+        ensures is { result ≡ self.now.free }
         ensures rule { IsBooks self.now }
     {
         self.free.amount()
@@ -376,21 +376,21 @@ impl<L: Names> Arb<L> {
 
     /// The entries so far.
     pub fn log(&self) -> &[Entry]
-        ensures value { result.now ≡ self.now.log }
+        ensures is { result.now ≡ self.now.log }
         ensures rule { IsBooks self.now }
     {
         &self.log
     }
 
     pub fn live(&self) -> &[Live]
-        ensures value { result.now ≡ self.now.live }
+        ensures is { result.now ≡ self.now.live }
         ensures rule { IsBooks self.now }
     {
         &self.live
     }
 
     pub fn is_live(&self, job: u32) -> bool
-        ensures value { result ≡ is_live self.now.live job }
+        ensures is { result ≡ is_live self.now.live job }
         ensures rule { IsBooks self.now }
     {
         holds_job(&self.live, job)
@@ -398,7 +398,7 @@ impl<L: Names> Arb<L> {
 
     /// The greatest capacity in bytes that a live job may have.
     pub fn max_of(&self, job: u32) -> Option<u64>
-        ensures value { result ≡ max_at self.now.live job }
+        ensures is { result ≡ max_at self.now.live job }
         ensures rule { IsBooks self.now }
     {
         max_where_live(&self.live, job)
@@ -406,7 +406,7 @@ impl<L: Names> Arb<L> {
 
     /// All admissions in order, also of jobs that have retired.
     pub fn admitted(&self) -> &[Admitted]
-        ensures value { result.now ≡ self.now.admitted }
+        ensures is { result.now ≡ self.now.admitted }
         ensures rule { IsBooks self.now }
     {
         &self.admitted
@@ -414,14 +414,14 @@ impl<L: Names> Arb<L> {
 
     /// How many requests were begun.
     pub fn requests(&self) -> u64
-        ensures value { result ≡ self.now.requests }
+        ensures is { result ≡ self.now.requests }
         ensures rule { IsBooks self.now }
     {
         self.requests
     }
 
     pub fn standing(&self) -> Option<Standing>
-        ensures value { result ≡ self.now.standing }
+        ensures is { result ≡ self.now.standing }
         ensures rule { IsBooks self.now }
     {
         self.standing
@@ -429,7 +429,7 @@ impl<L: Names> Arb<L> {
 
     /// For how many more entries the log has room.
     pub fn spare(&self) -> u64
-        ensures value { result ≡ self.now.spare }
+        ensures is { result ≡ self.now.spare }
         ensures rule { IsBooks self.now }
     {
         self.spare

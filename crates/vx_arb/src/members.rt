@@ -66,21 +66,21 @@ pub trait Member<L: Names> {
     ghost wants: { Self → Self → Type 0 };
 
     fn job(&self) -> u32
-        ensures value { result ≡ job_is self.now }
+        ensures is { result ≡ job_is self.now }
         ensures rule { IsWithin (capacity_is self.now) (reserved_is self.now) (unused_is self.now) };
 
     fn capacity(&self) -> u64
-        ensures value { result ≡ capacity_is self.now }
+        ensures is { result ≡ capacity_is self.now }
         ensures rule { IsWithin (capacity_is self.now) (reserved_is self.now) (unused_is self.now) };
 
     /// The root's reserved amount.
     fn reserved(&self) -> u64
-        ensures value { result ≡ reserved_is self.now }
+        ensures is { result ≡ reserved_is self.now }
         ensures rule { IsWithin (capacity_is self.now) (reserved_is self.now) (unused_is self.now) };
 
     /// The capacity that isn't reserved.
     fn unused(&self) -> u64
-        ensures value { result ≡ unused_is self.now }
+        ensures is { result ≡ unused_is self.now }
         ensures rule { IsWithin (capacity_is self.now) (reserved_is self.now) (unused_is self.now) };
 
     /// The bytes that a reclaim could still free.
@@ -92,7 +92,7 @@ pub trait Member<L: Names> {
 
     /// What the step that a hint picks would lack.
     fn lack(&self, hint: u32) -> Option<Lack>
-        ensures value { result ≡ lack_is self.now hint }
+        ensures is { result ≡ lack_is self.now hint }
         ensures numbers { IfSome result (IsLackOf (capacity_is self.now) (reserved_is self.now)) };
 
     /// Makes the one step that a hint picks.

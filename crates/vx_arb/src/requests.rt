@@ -124,7 +124,7 @@ impl Request {
 
     /// The looks so far, one a job at most.
     pub fn looks(&self) -> &[Look]
-        ensures value { result.now ≡ self.now.looks }
+        ensures is { result.now ≡ self.now.looks }
         ensures single { AreSingle result.now }
         ensures few { length result.now < 2 ^ 32 }
     {

@@ -1,3 +1,4 @@
+//! Chunks tiled by blocks: the lowest layer, which knows heads and payloads alone.
 ghost use Rattle.std.specs.Prelude.{◌≡◌, ◌+◌, ◌^◌, ◌<◌, ◌≤◌, [], ◌∷◌, IfOk, OnErr, length, take, drop};
 ghost use Rattle.vx_raw.specs.Region.{written};
 ghost use Rattle.vx_arena.specs.Chunks.{IsBlock, block_at, with_blocks, with_chunk, halves, held_by};

@@ -1,3 +1,4 @@
+//! Free blocks, in a list for each class of length.
 ghost use Rattle.std.specs.Prelude.{◌≡◌, ◌≢◌, ◌+◌, ◌*◌, ◌^◌, ◌<◌, ◌≤◌, [], IfOk, OnErr, MatchOption, length, take, drop};
 ghost use Rattle.vx_arena.specs.Chunks.{held_by};
 ghost use Rattle.vx_arena.specs.Names.{none, named};

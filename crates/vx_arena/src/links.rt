@@ -1,3 +1,4 @@
+//! The links inside blocks, by the names that blocks have.
 ghost use Rattle.std.specs.Prelude.{◌≡◌, ◌≢◌, ◌+◌, ◌^◌, ◌<◌, ◌≤◌, None, IfOk, OnErr, length, take, drop};
 ghost use Rattle.vx_raw.specs.Region.{written};
 ghost use Rattle.vx_arena.specs.Chunks.{IsBlock, block_at, held_by};

@@ -1,3 +1,4 @@
+//! How one part of a text is taken: from a free block, or from a new chunk, and trimmed.
 ghost use Rattle.std.specs.Prelude.{◌≡◌, ◌<◌, ◌≤◌, IfOk, OnErr, MatchOption, length};
 ghost use Rattle.vx_arena.specs.Names.{named};
 ghost use Rattle.vx_arena.specs.Free.{class_len, IsLive, Gives};

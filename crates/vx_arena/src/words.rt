@@ -1,3 +1,4 @@
+//! Numbers as the bytes in which blocks spell them.
 ghost use Rattle.std.specs.Prelude.{◌≡◌, ◌++◌, drop, if◌then◌else◌};
 ghost use Rattle.std.specs.Int.{w32, w64, to_le_bytes, from_le_bytes};
 ghost use Rattle.vx_raw.specs.Region.{IsInside, chunk_at};

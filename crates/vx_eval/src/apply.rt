@@ -1,3 +1,4 @@
+//! A function over the rows of its arguments, by how many it has.
 ghost use Rattle.std.specs.Prelude.{◌≡◌, [], ◌∷◌, length, IfOk, IsOk};
 ghost use Rattle.std.specs.Cow.{cow_value};
 ghost use Rattle.vx_expr.specs.Eval as eval;

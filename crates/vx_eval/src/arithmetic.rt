@@ -1,3 +1,4 @@
+//! Strict functions of ints, over whole columns.
 ghost use Rattle.std.specs.Prelude.{◌≡◌, ℕ, ◌<◌, if◌then◌else◌, length, get_or, pos, IfOk, FitsSigned};
 ghost use Rattle.std.specs.Int.{w64};
 ghost use Rattle.vx_value.specs.declared.value.Value.TheVariants as value;

@@ -1,3 +1,4 @@
+//! What each call computes, chosen by its function and by the kinds of its arguments.
 ghost use Rattle.std.specs.Prelude.{◌≡◌, [], ◌∷◌, length, IfOk, IsOk};
 ghost use Rattle.std.specs.Cow.{cow_value};
 ghost use Rattle.vx_expr.specs.Eval as eval;

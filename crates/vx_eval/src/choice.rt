@@ -1,3 +1,4 @@
+//! `if`, `coalesce` and `is_null`, over bools and ints.
 ghost use Rattle.std.specs.Prelude.{◌≡◌, ℕ, ◌<◌, length, get_or, false, IfOk};
 ghost use Rattle.vx_value.specs.declared.value.Value.{Value};
 ghost use Rattle.vx_value.specs.declared.value.Value.TheVariants as value;

@@ -1,3 +1,4 @@
+//! A column of the batch at the selected rows.
 ghost use Rattle.std.specs.Prelude.{◌≡◌, ℕ, ◌<◌, [], ◌∷◌, ◌++◌, if◌then◌else◌, length, get_or, slice_get, unwrap_or, true, false, All, IfOk, OnOk, IsOk};
 ghost use Rattle.std.specs.Cow.{cow_value};
 ghost use Rattle.vx_value.specs.Value.{owned, IsLawful};

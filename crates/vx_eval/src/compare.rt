@@ -1,3 +1,4 @@
+//! Comparisons of two values of one kind, over whole columns.
 ghost use Rattle.std.specs.Prelude.{◌≡◌, ℕ, ◌<◌, length, get_or, pos, false, IfOk};
 ghost use Rattle.vx_value.specs.declared.value.Value.TheVariants as value;
 ghost use Rattle.vx_expr.specs.Eval as eval;

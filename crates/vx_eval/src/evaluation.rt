@@ -1,3 +1,4 @@
+//! An expression over a batch, column by column, from the leaves up.
 ghost use Rattle.std.specs.Prelude.{◌≡◌, ◌<◌, length, All, IfOk, IsOk, IsTrue};
 ghost use Rattle.std.specs.Cow.{cow_value};
 ghost use Rattle.vx_expr.specs.Typing.{type_of};

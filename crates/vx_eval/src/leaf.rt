@@ -1,3 +1,4 @@
+//! A literal on each row.
 ghost use Rattle.std.specs.Prelude.{◌≡◌, ℕ, ◌<◌, if◌then◌else◌, length, get_or, false, IfOk, IsTrue};
 ghost use Rattle.vx_value.specs.Value as values;
 ghost use Rattle.vx_value.specs.Value.{IsText};

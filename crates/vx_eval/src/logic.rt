@@ -1,3 +1,4 @@
+//! `and`, `or` and `not` in three-valued logic, over whole columns.
 ghost use Rattle.std.specs.Prelude.{◌≡◌, ℕ, ◌<◌, length, IfOk};
 ghost use Rattle.vx_value.specs.declared.value.Value.TheVariants as value;
 ghost use Rattle.vx_expr.specs.Eval as eval;

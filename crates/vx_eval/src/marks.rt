@@ -1,3 +1,4 @@
+//! How the marks of a strict function's arguments become its own.
 ghost use Rattle.std.specs.Prelude.{◌≡◌, length, IfOk};
 ghost use Rattle.vx_vector.specs.Marks.{strict_marks};
 ghost use Rattle.vx_eval.specs.Got as got;

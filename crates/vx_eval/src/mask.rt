@@ -1,3 +1,4 @@
+//! The fault mask of a batch.
 ghost use Rattle.std.specs.Prelude.{◌≡◌, ◌≢◌, ℕ, ◌<◌, length, get_or, None, All, IfOk, IsTrue};
 ghost use Rattle.vx_eval.specs.Got.{fault_under};
 ghost use Rattle.vx_vector.specs.Lanes.{rows_of, lane_at};

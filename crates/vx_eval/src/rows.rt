@@ -1,3 +1,4 @@
+//! The loops that carry a function of one row over whole buffers.
 ghost use Rattle.std.specs.Prelude.{◌≡◌, ℕ, ◌<◌, length, get_or, IfOk};
 
 use crate::leaf::filled;

@@ -1,3 +1,4 @@
+//! `concat`, `if` and `coalesce` over texts, made only where they are wanted.
 ghost use Rattle.std.specs.Prelude.{◌≡◌, ℕ, ◌<◌, [], ◌∷◌, ◌++◌, length, get_or, if◌then◌else◌, false, IfOk, OnOk};
 ghost use Rattle.vx_eval.specs.TextRows.{blank_row, joined, joined_row, chosen_row, given_row};
 ghost use Rattle.vx_value.specs.Value.{IsText};

@@ -1,3 +1,4 @@
+//! Tests and lengths of texts, over whole columns.
 ghost use Rattle.std.specs.Prelude.{◌≡◌, ℕ, ◌<◌, length, get_or, refl, IfOk};
 ghost use Rattle.vx_value.specs.declared.value.Value.TheVariants as value;
 ghost use Rattle.vx_expr.specs.Eval as eval;

@@ -1,3 +1,4 @@
+//! On which rows a function looks at an argument.
 ghost use Rattle.std.specs.Prelude.{◌≡◌, ℕ, ◌<◌, not, length, get_or, true, false, IfOk};
 ghost use Rattle.vx_value.specs.declared.value.Value.{Value};
 ghost use Rattle.vx_value.specs.declared.value.Value.TheVariants as value;

@@ -1,3 +1,4 @@
+//! Whole numbers of 64 bits, with overflow as a fault.
 ghost use Rattle.std.specs.Prelude.{◌≡◌, MatchOption};
 ghost use Rattle.vx_expr.specs.Eval as eval;
 

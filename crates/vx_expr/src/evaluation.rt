@@ -1,3 +1,4 @@
+//! The value of an expression on a row, one row at a time.
 ghost use Rattle.std.specs.Prelude.{◌≡◌, ◌∷◌, [], map, slice_get, unwrap_or, IfOk};
 ghost use Rattle.vx_expr.specs.Eval as eval;
 

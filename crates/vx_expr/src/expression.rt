@@ -1,3 +1,4 @@
+//! Expressions: columns, literals, calls.
 ghost use Rattle.std.specs.Prelude.{◌≡◌, IfOk};
 
 use sqlite_items::Items;

@@ -1,3 +1,4 @@
+//! What each strict function gives of values.
 ghost use Rattle.std.specs.Prelude.{◌≡◌, IfOk};
 ghost use Rattle.vx_expr.specs.Eval as eval;
 

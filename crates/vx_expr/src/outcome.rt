@@ -1,3 +1,4 @@
+//! Faults of an evaluation, and errors of typing.
 use vx_value::Value;
 
 /// Why an expression has no value on a row.

@@ -1,3 +1,4 @@
+//! How deep an expression is, and how long its texts are.
 ghost use Rattle.std.specs.Prelude.{◌≡◌, map, nat_le};
 ghost use Rattle.vx_expr.specs.Depth as sizes;
 

@@ -1,3 +1,4 @@
+//! The kind of an expression.
 ghost use Rattle.std.specs.Prelude.{◌≡◌, map, slice_get};
 ghost use Rattle.vx_expr.specs.Typing as typing;
 

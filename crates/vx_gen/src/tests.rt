@@ -1,3 +1,4 @@
+//! The first rows of the generated plan, and its rows' hashes beside another language's.
 use crate::make_plan;
 use crate::rows::{drawn_rows, group_rows};
 use std::test::Fail;

@@ -1,3 +1,4 @@
+//! Why a sink took nothing, or a name's bytes weren't read.
 use std::alloc::{AllocError, AllocFailed};
 use thiserror::Error;
 

@@ -1,3 +1,4 @@
+//! The gate that each worker passes between its steps.
 /// Where a worker stands when it calls the gate.
 #[derive(Clone, Copy, Debug, PartialEq, Eq)]
 pub enum GatePlace {

@@ -1,3 +1,4 @@
+//! A whole piece given to a sink that takes it in parts.
 ghost use Rattle.std.specs.Prelude.{◌≡◌, OnErr, OnOk};
 ghost use Rattle.vx_base.specs.Causes.{HasCause};
 ghost use Rattle.vx_base.specs.Told.{gained};

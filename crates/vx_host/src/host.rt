@@ -1,3 +1,4 @@
+//! The outside of a run: the contract.
 ghost use Rattle.std.specs.Prelude.{◌≡◌, ◌≤◌, length, Bool, true, IfOk, IfErr, OnErr};
 ghost use Rattle.vx_base.specs.Causes.{HasCause};
 ghost use Rattle.vx_host.specs.Views.{SinkView, FilesView};

@@ -1,3 +1,4 @@
+//! A host in memory, which fails at listed reads.
 ghost use Rattle.std.specs.Prelude.{◌≡◌, ◌≤◌, ◌↔◌, min, length, true, IfOk, IfErr, OnErr, IsErrOf};
 ghost use Rattle.std.specs.Option.{option_copied};
 ghost use Rattle.vx_base.specs.Causes.{HasCause};

@@ -1,3 +1,4 @@
+//! A sink in memory, which fails at listed calls.
 ghost use Rattle.std.specs.Prelude.{◌≡◌, ◌≤◌, ◌↔◌, min, length, true, IfOk, OnErr, IsErrOf};
 ghost use Rattle.vx_base.specs.Causes.{HasCause};
 ghost use Rattle.vx_host.specs.Memory.{sink_view, new_sink, after_write, is_to_fail};

@@ -1,3 +1,4 @@
+//! The bytes of a file, up to a limit.
 // Reading a file whole, up to a limit.
 ghost use Rattle.std.specs.Prelude.{◌≡◌, ◌≤◌, ◌↔◌, ℕ, List, length, Option, None, IfOk, IfErr};
 ghost use Rattle.std.specs.IoError.{error_kind};

@@ -1,3 +1,4 @@
+//! A host over real files and two writers.
 ghost use Rattle.std.specs.Prelude.{◌≡◌, ◌≤◌, length, true, false, IfOk, IfErr, OnErr};
 ghost use Rattle.std.specs.Io.KnownBytes.{WriteAppends};
 ghost use Rattle.vx_base.specs.Causes.{HasCause};

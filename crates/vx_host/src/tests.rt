@@ -1,3 +1,4 @@
+//! Hosts, sinks and stores that fail where it is listed.
 use crate::reading::read_within;
 use crate::{
     Host, MemoryFile, MemoryHost, MemorySink, ReadError, RealHost, SinkError, StoreFail, To,

@@ -1,3 +1,4 @@
+//! The rows of a values node, cell by cell.
 ghost use Rattle.std.specs.Prelude.{◌≡◌, IfOk};
 ghost use Rattle.serde_json.specs.Data.{boolean, number as number_data, string as string_data};
 ghost use Rattle.serde_json.specs.View.{view, number_view};

@@ -1,3 +1,4 @@
+//! Why no plan was read.
 use std::alloc::{AllocError, AllocFailed};
 use thiserror::Error;
 use vx_plan::Refusal;

@@ -1,3 +1,4 @@
+//! Expressions from JSON values.
 ghost use Rattle.std.specs.Prelude.{◌≤◌, drop, length, map};
 ghost use Rattle.serde_json.specs.View.{view};
 ghost use Rattle.vx_json.specs.Outcome.{Gives};

@@ -1,3 +1,4 @@
+//! The fields of a JSON object.
 ghost use Rattle.std.specs.Prelude.{◌≡◌, map, count_by, option_map, option_and_then};
 ghost use Rattle.std.specs.List.{list_all};
 ghost use Rattle.serde_json.specs.View.{view};

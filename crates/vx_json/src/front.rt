@@ -1,3 +1,4 @@
+//! Nodes without their sources.
 use sqlite_items::Items;
 use vx_expr::Expr;
 use vx_plan::{Aggregate, ExchangeKind, JoinKind, Step};

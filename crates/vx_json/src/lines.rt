@@ -1,3 +1,4 @@
+//! Lines of rows of ints and nulls, put together from the last byte on.
 ghost use Rattle.std.specs.Prelude.{◌≡◌, ◌↔◌, ◌+◌, ◌*◌, ◌<◌, ◌≤◌, ◌∷◌, ◌++◌, Any, IfSome, IsTrue, OnOk, drop, length, true};
 ghost use Rattle.std.specs.Fmt.{signed_decimal};
 ghost use Rattle.std.specs.Str.{byte};

@@ -1,3 +1,4 @@
+//! Lists from JSON arrays, item by item.
 ghost use Rattle.std.specs.Prelude.{◌≡◌, ◌<◌, length, map, option_map, true, IfOk};
 ghost use Rattle.serde_json.specs.View.{view};
 ghost use Rattle.vx_json.specs.Outcome.{Gives, GivesAll, AreGiven};

@@ -1,3 +1,4 @@
+//! Whether a JSON value has a string that is too long for a text.
 ghost use Rattle.std.specs.Prelude.{◌≡◌, false, IsTrue};
 ghost use Rattle.serde_json.specs.View.{view, items_view, members_view};
 ghost use Rattle.vx_json.specs.Plans as spec;

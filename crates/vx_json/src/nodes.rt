@@ -1,3 +1,4 @@
+//! Plan nodes from JSON values.
 ghost use Rattle.std.specs.Prelude.{◌≡◌, IfOk};
 ghost use Rattle.serde_json.specs.View.{view};
 ghost use Rattle.vx_json.specs.Outcome.{Gives};

@@ -1,3 +1,4 @@
+//! The plan of a file's bytes, or its first refusal.
 ghost use Rattle.std.specs.Prelude.{◌≡◌, ◌||◌, IfOk, OnOk};
 ghost use Rattle.vx_plan.specs.Check.{IsChecked};
 ghost use Rattle.serde_json.specs.View.{view};

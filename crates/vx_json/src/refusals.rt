@@ -1,3 +1,4 @@
+//! The printed texts of refusals.
 ghost use Rattle.std.specs.Prelude.{◌≡◌, string_bytes, IfOk};
 ghost use Rattle.vx_json.specs.Refusals as spec;
 

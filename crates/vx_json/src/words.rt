@@ -1,3 +1,4 @@
+//! The words of a plan file, each in its closed list.
 ghost use Rattle.std.specs.Prelude.{◌≡◌, map};
 ghost use Rattle.serde_json.specs.View.{view};
 ghost use Rattle.vx_json.specs.Outcome.{Gives};

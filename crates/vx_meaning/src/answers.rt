@@ -1,3 +1,4 @@
+//! The slow evaluator: one node after another.
 ghost use Rattle.std.specs.Prelude.{◌≡◌, ◌+◌, sum_by, IfOk, IfErr};
 ghost use Rattle.vx_plan.specs.Tree as plans;
 ghost use Rattle.vx_plan.specs.Limits as limits;

@@ -1,3 +1,4 @@
+//! Single cells of rows, and keys made of them.
 ghost use Rattle.std.specs.Prelude.{◌≡◌, IfOk};
 ghost use Rattle.vx_value.specs.Value.{owned, IsLawful};
 ghost use Rattle.vx_value.specs.Row.{value_at};
@@ -12,7 +13,7 @@ use vx_value::{Row, SortKey, Txt, Value, ValueRef, cmp_values};
 
 /// The value at a place, and null past the end.
 pub fn value_in(row: &Row, place: usize) -> ValueRef<'_>
-    ensures value { owned result ≡ value_at row.now place }
+    ensures is { owned result ≡ value_at row.now place }
     ensures lawful { IsLawful (owned result) }
 {
     match row.cells().get(place) {
@@ -23,7 +24,7 @@ pub fn value_in(row: &Row, place: usize) -> ValueRef<'_>
 
 /// The value in a column, and null where there is none.
 pub fn cell(column: Option<u32>, row: &Row) -> ValueRef<'_>
-    ensures value { owned result ≡ folds.cell column row.now }
+    ensures is { owned result ≡ folds.cell column row.now }
     ensures lawful { IsLawful (owned result) }
 {
     match column {
@@ -34,7 +35,7 @@ pub fn cell(column: Option<u32>, row: &Row) -> ValueRef<'_>
 
 /// The value in the next column.
 pub fn next_cell(column: Option<u32>, row: &Row) -> ValueRef<'_>
-    ensures value { owned result ≡ folds.next_cell column row.now }
+    ensures is { owned result ≡ folds.next_cell column row.now }
     ensures lawful { IsLawful (owned result) }
 {
     match column {

@@ -1,3 +1,4 @@
+//! The cells of a group's aggregates.
 ghost use Rattle.std.specs.Prelude.{◌≡◌, IfOk};
 ghost use Rattle.vx_meaning.specs.Folds.{fold_of, finish};
 ghost use Rattle.vx_meaning.specs.Picks.{pick_name};

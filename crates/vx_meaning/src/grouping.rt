@@ -1,3 +1,4 @@
+//! An aggregation, over rows sorted by key.
 ghost use Rattle.std.specs.Prelude.{◌≡◌, ◌≤◌, ◌<◌, length, map, IfOk, IfErr, Ok, IsSorted};
 ghost use Rattle.vx_meaning.specs.Groups.{by_columns};
 ghost use Rattle.vx_meaning.specs.Groupings.{groups_by, group_by, GroupsOf, StopsInGroups, StopsInGroup, IsRun};

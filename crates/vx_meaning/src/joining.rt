@@ -1,3 +1,4 @@
+//! A join of two whole lists.
 ghost use Rattle.std.specs.Prelude.{◌≡◌, ◌++◌, map, IfOk, OnOk};
 ghost use Rattle.std.specs.List.{list_any};
 ghost use Rattle.vx_value.specs.KeyBytes.{key_values};

@@ -1,3 +1,4 @@
+//! What the slow evaluator gives, and why it ends early.
 ghost use Rattle.std.specs.Prelude.{◌≡◌};
 
 use sqlite_items::Items;

@@ -1,3 +1,4 @@
+//! Aggregates that pick one of a group's values.
 ghost use Rattle.std.specs.Prelude.{◌≡◌, ◌&&◌, ◌||◌, Bool};
 ghost use Rattle.vx_value.specs.Value.{owned, IsLawful};
 ghost use Rattle.vx_meaning.specs.Folds as folds;
@@ -23,7 +24,7 @@ pub enum Pick {
 impl Pick {
     /// What is picked over these rows, null where there is nothing to pick.
     pub fn over(self, step: Step, column: Option<u32>, rows: &[Row]) -> ValueRef<'_>
-        ensures value { owned result ≡ fold_in step (pick_name self) column rows.now }
+        ensures is { owned result ≡ fold_in step (pick_name self) column rows.now }
         ensures lawful { IsLawful (owned result) }
     {
         let mut picked = ValueRef::Null;
@@ -37,7 +38,7 @@ impl Pick {
     fn plus<'a>(self, a: ValueRef<'a>, b: ValueRef<'a>) -> ValueRef<'a>
         requires a { IsLawful (owned a) }
         requires b { IsLawful (owned b) }
-        ensures value { owned result ≡ folds.plus (pick_name self) (owned a.entry) (owned b.entry) }
+        ensures is { owned result ≡ folds.plus (pick_name self) (owned a.entry) (owned b.entry) }
         ensures lawful { IsLawful (owned result) }
     {
         match self {
@@ -50,7 +51,7 @@ impl Pick {
 
     /// What a row brings.
     fn part(self, column: Option<u32>, row: &Row) -> ValueRef<'_>
-        ensures value { owned result ≡ folds.part Step.Single (pick_name self) column row.now }
+        ensures is { owned result ≡ folds.part Step.Single (pick_name self) column row.now }
         ensures lawful { IsLawful (owned result) }
     {
         match self {
@@ -63,7 +64,7 @@ impl Pick {
 }
 
 fn truth_only(value: ValueRef<'_>) -> ValueRef<'_>
-    ensures value { owned result ≡ folds.truth_only (owned value.entry) }
+    ensures is { owned result ≡ folds.truth_only (owned value.entry) }
     ensures lawful { IsLawful (owned result) }
 {
     match value {
@@ -75,7 +76,7 @@ fn truth_only(value: ValueRef<'_>) -> ValueRef<'_>
 fn lesser<'a>(a: ValueRef<'a>, b: ValueRef<'a>) -> ValueRef<'a>
     requires a { IsLawful (owned a) }
     requires b { IsLawful (owned b) }
-    ensures value { owned result ≡ folds.lesser (owned a.entry) (owned b.entry) }
+    ensures is { owned result ≡ folds.lesser (owned a.entry) (owned b.entry) }
     ensures lawful { IsLawful (owned result) }
 {
     if a.is_null() {
@@ -93,7 +94,7 @@ fn lesser<'a>(a: ValueRef<'a>, b: ValueRef<'a>) -> ValueRef<'a>
 fn greater<'a>(a: ValueRef<'a>, b: ValueRef<'a>) -> ValueRef<'a>
     requires a { IsLawful (owned a) }
     requires b { IsLawful (owned b) }
-    ensures value { owned result ≡ folds.greater (owned a.entry) (owned b.entry) }
+    ensures is { owned result ≡ folds.greater (owned a.entry) (owned b.entry) }
     ensures lawful { IsLawful (owned result) }
 {
     if a.is_null() {
@@ -109,7 +110,7 @@ fn greater<'a>(a: ValueRef<'a>, b: ValueRef<'a>) -> ValueRef<'a>
 }
 
 fn all<'a>(a: ValueRef<'a>, b: ValueRef<'a>) -> ValueRef<'a>
-    ensures value { owned result ≡ folds.by_truths ◌&&◌ (owned a.entry) (owned b.entry) }
+    ensures is { owned result ≡ folds.by_truths ◌&&◌ (owned a.entry) (owned b.entry) }
     ensures lawful { IsLawful (owned result) }
 {
     match truth_only(a) {
@@ -122,7 +123,7 @@ fn all<'a>(a: ValueRef<'a>, b: ValueRef<'a>) -> ValueRef<'a>
 }
 
 fn any<'a>(a: ValueRef<'a>, b: ValueRef<'a>) -> ValueRef<'a>
-    ensures value { owned result ≡ folds.by_truths ◌||◌ (owned a.entry) (owned b.entry) }
+    ensures is { owned result ≡ folds.by_truths ◌||◌ (owned a.entry) (owned b.entry) }
     ensures lawful { IsLawful (owned result) }
 {
     match truth_only(a) {

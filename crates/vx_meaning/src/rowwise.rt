@@ -1,3 +1,4 @@
+//! Filter and project, row by row.
 ghost use Rattle.std.specs.Prelude.{◌≡◌, ◌++◌, [], ◌∷◌, take, drop, IfOk, IfErr, OnOk};
 ghost use Rattle.vx_meaning.specs.Lines.{Filtered, Projected};
 ghost use Rattle.vx_meaning.specs.Rows.{image};

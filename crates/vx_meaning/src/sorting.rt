@@ -1,3 +1,4 @@
+//! Order and top-n of a whole list.
 ghost use Rattle.std.specs.Prelude.{◌≡◌, IfOk, IsPermutation, IsSorted};
 ghost use Rattle.vx_value.specs.Order as order;
 ghost use Rattle.vx_meaning.specs.Lines.{Ordered, FirstOf};

@@ -1,3 +1,4 @@
+//! Exact sums and counts.
 ghost use Rattle.std.specs.Prelude.{◌≡◌, ◌≢◌, ◌<◌, ◌^◌, ◌+ℤ◌, ◌||◌, ℤ, pos, length, FitsSigned, OnOk, IfOk, true, false, if◌then◌else◌, ◌++◌};
 ghost use Rattle.std.specs.Int.{w128, int_div_euclid, int_rem_euclid};
 ghost use Rattle.vx_value.specs.Value.{owned};
@@ -22,7 +23,7 @@ const BASE: i128 = 9223372036854775808;
 impl Total {
     /// The count of the rows with a value in the column, or of all rows; in a final step the sum of such counts.
     pub fn count(step: Step, column: Option<u32>, rows: &[Row]) -> Total
-        ensures value { total_value result ≡ fold_in step AggregateName.Count column rows.now }
+        ensures is { total_value result ≡ fold_in step AggregateName.Count column rows.now }
         ensures within { IsWithin (length rows.now) result }
     {
         let mut total = Total {
@@ -38,7 +39,7 @@ impl Total {
 
     /// The sum of a column, or of a pair of columns in a final step.
     pub fn sum(step: Step, column: Option<u32>, rows: &[Row]) -> Total
-        ensures value { total_value result ≡ fold_in step AggregateName.Sum column rows.now }
+        ensures is { total_value result ≡ fold_in step AggregateName.Sum column rows.now }
         ensures within { IsWithin (length rows.now) result }
         ensures narrow { step ≢ Step.Final → result.high ≡ pos 0 }
     {
@@ -93,7 +94,7 @@ impl Total {
 }
 
 fn of_int(value: ValueRef<'_>) -> Total
-    ensures value { total_value result ≡ int_only (owned value.entry) }
+    ensures is { total_value result ≡ int_only (owned value.entry) }
     ensures within { IsWithin 1 result }
     ensures narrow { result.high ≡ pos 0 }
 {
@@ -112,7 +113,7 @@ fn of_int(value: ValueRef<'_>) -> Total
 }
 
 fn of_pair(high: ValueRef<'_>, low: ValueRef<'_>) -> Total
-    ensures value { total_value result ≡ wide (owned high.entry) (owned low.entry) }
+    ensures is { total_value result ≡ wide (owned high.entry) (owned low.entry) }
     ensures within { IsWithin 1 result }
 {
     match high {
@@ -147,7 +148,7 @@ fn one_if(counts: bool) -> Total
 }
 
 fn counted(step: Step, column: Option<u32>, row: &Row) -> Total
-    ensures value { total_value result ≡ part step AggregateName.Count column row.now }
+    ensures is { total_value result ≡ part step AggregateName.Count column row.now }
     ensures within { IsWithin 1 result }
 {
     match step {
@@ -158,7 +159,7 @@ fn counted(step: Step, column: Option<u32>, row: &Row) -> Total
 }
 
 fn summed(step: Step, column: Option<u32>, row: &Row) -> Total
-    ensures value { total_value result ≡ part step AggregateName.Sum column row.now }
+    ensures is { total_value result ≡ part step AggregateName.Sum column row.now }
     ensures within { IsWithin 1 result }
     ensures narrow { step ≢ Step.Final → result.high ≡ pos 0 }
 {

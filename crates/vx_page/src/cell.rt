@@ -1,3 +1,4 @@
+//! Cells and rows as pages have them, and the slots of a shape.
 ghost use Rattle.std.specs.Prelude.{◌≡◌};
 
 use std::marker::Model;

@@ -1,3 +1,4 @@
+//! Why bytes give no rows.
 ghost use Rattle.std.specs.Prelude.{◌≡◌};
 ghost use Rattle.vx_page.specs.declared.error.PageError.TheVariants.{NoMemory};
 

@@ -1,3 +1,4 @@
+//! The rows of a page's bytes, or the first place at which they are no page.
 ghost use Rattle.std.specs.Prelude.{◌≡◌, List, IfOk, Ok};
 ghost use Rattle.std.specs.Str.{is_utf8};
 ghost use Rattle.std.specs.Int.{w16, w32, w64, w128};

@@ -1,3 +1,4 @@
+//! A store of pages that notices a page that isn't what was written.
 ghost use Rattle.std.specs.Prelude.{◌≡◌, ◌<◌, ◌≤◌, ◌^◌, ◌⊎◌, [], List, All, length, None, IfSome, IfOk, IfErr, OnOk, OnErr, IsErrOf};
 ghost use Rattle.vx_base.specs.Causes.{Rose};
 ghost use Rattle.vx_value.specs.Hash.{hash_of};

@@ -1,3 +1,4 @@
+//! What is kept of each page that was written, by file.
 ghost use Rattle.std.specs.Prelude.{◌≡◌, ◌<◌, ◌++◌, ◌∷◌, [], ℕ, length, Some, slice_get, IfOk, OnOk, OnErr};
 ghost use Rattle.vx_page.specs.Sealed.{kept_of, seals_of, pages_of};
 

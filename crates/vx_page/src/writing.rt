@@ -1,3 +1,4 @@
+//! The bytes of a page of rows.
 ghost use Rattle.std.specs.Prelude.{◌≡◌, ◌<◌, ◌≤◌, ◌^◌, ◌++◌, ◌∷◌, List, length, All, IfOk, OnOk, Ok, FitsSigned};
 ghost use Rattle.std.specs.Int.{bytes_high_first, cast_unsigned, w128};
 ghost use Rattle.vx_value.specs.Value.{owned, IsLawful};

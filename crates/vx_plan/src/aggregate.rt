@@ -1,3 +1,4 @@
+//! Aggregates, and the steps of an aggregation.
 /// Which part of an aggregation a node does.
 #[derive(Clone, Copy, Debug, PartialEq, Eq)]
 pub enum Step {

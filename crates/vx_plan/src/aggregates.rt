@@ -1,3 +1,4 @@
+//! The kinds that an aggregation gives.
 ghost use Rattle.std.specs.Prelude.{◌≡◌, ◌≤◌, ◌+◌, ◌∷◌, [], length, slice_get, None, IfOk};
 ghost use Rattle.vx_expr.specs.Typing as typing;
 ghost use Rattle.vx_plan.specs.Limits.{result_columns, columns_grouped};
@@ -27,7 +28,7 @@ pub fn grouped_kinds(
     kinds: &[Kind],
 ) -> Result<Kinds, TypeError>
     requires { columns_grouped step (length keys.now) aggregates.now ≤ 64 }
-    ensures value { result ≡ types.kinds_grouped step keys.now aggregates.now kinds.now }
+    ensures is { result ≡ types.kinds_grouped step keys.now aggregates.now kinds.now }
     ensures columns { IfOk result (λ out. length out ≡ columns_grouped step (length keys.now) aggregates.now) }
 {
     let mut out = key_kinds(keys, kinds)?;
@@ -40,7 +41,7 @@ pub fn grouped_kinds(
 
 fn key_kinds(keys: &[u32], kinds: &[Kind]) -> Result<Kinds, TypeError>
     requires { length keys.now ≤ 64 }
-    ensures value { result ≡ types.kinds_at kinds.now keys.now }
+    ensures is { result ≡ types.kinds_at kinds.now keys.now }
     ensures columns { IfOk result (λ out. length out ≡ length keys.now) }
 {
     let mut out = Kinds::new();
@@ -53,7 +54,7 @@ fn key_kinds(keys: &[u32], kinds: &[Kind]) -> Result<Kinds, TypeError>
 /// The kinds that an aggregate gives: a wrong number of arguments is asked first, then that the columns are
 /// there, then their kinds.
 fn aggregate_kinds(step: Step, aggregate: Aggregate, kinds: &[Kind]) -> Result<Kinds, TypeError>
-    ensures value { result ≡ types.aggregate_kinds step kinds.now aggregate }
+    ensures is { result ≡ types.aggregate_kinds step kinds.now aggregate }
     ensures columns { IfOk result (λ out. length out ≡ result_columns step aggregate.name) }
 {
     match aggregate.column {
@@ -71,7 +72,7 @@ fn aggregate_kinds(step: Step, aggregate: Aggregate, kinds: &[Kind]) -> Result<K
 
 /// Only a count may have no column, and no final count, which adds up what its column has.
 fn kinds_without_column(step: Step, name: AggregateName, kinds: &[Kind]) -> Result<Kinds, TypeError>
-    ensures value { result ≡ on_ok (types.reads step name None) (types.aggregate_from step name kinds.now) }
+    ensures is { result ≡ on_ok (types.reads step name None) (types.aggregate_from step name kinds.now) }
     ensures columns { IfOk result (λ out. length out ≡ result_columns step name) }
 {
     match step {
@@ -89,7 +90,7 @@ fn kinds_of_one_column(
     column: u32,
     kinds: &[Kind],
 ) -> Result<Kinds, TypeError>
-    ensures value { result ≡ types.aggregate_from step name kinds.now (column ∷ []) }
+    ensures is { result ≡ types.aggregate_from step name kinds.now (column ∷ []) }
     ensures columns { IfOk result (λ out. length out ≡ result_columns step name) }
 {
     let kind = kind_at(kinds, column as usize)?;
@@ -101,7 +102,7 @@ fn kinds_of_one_column(
 
 /// A final sum reads the high and the low of a partial one, from two columns.
 fn kinds_of_final_sum(column: u32, kinds: &[Kind]) -> Result<Kinds, TypeError>
-    ensures value { result ≡ types.aggregate_from Step.Final AggregateName.Sum kinds.now (column ∷ (column + 1) ∷ []) }
+    ensures is { result ≡ types.aggregate_from Step.Final AggregateName.Sum kinds.now (column ∷ (column + 1) ∷ []) }
     ensures columns { IfOk result (λ out. length out ≡ 1) }
 {
     let high = kind_at(kinds, column as usize)?;
@@ -137,7 +138,7 @@ fn is_wanted(step: Step, name: AggregateName, kind: Kind) -> bool
 
 /// What an aggregate gives for a column of this kind.
 fn given_kinds(step: Step, name: AggregateName, kind: Kind) -> Kinds
-    ensures value { result ≡ types.gives step name (kind ∷ []) }
+    ensures is { result ≡ types.gives step name (kind ∷ []) }
     ensures columns { length result ≡ result_columns step name }
 {
     match name {

@@ -1,3 +1,4 @@
+//! How many nodes, rows and cells a plan has, within an allowance.
 ghost use Rattle.std.specs.Prelude.{◌≡◌, length, sum_by};
 ghost use Rattle.vx_plan.specs.Tree.{tree};
 ghost use Rattle.vx_plan.specs.Limits as limits;

@@ -1,3 +1,4 @@
+//! The check of a plan, in the order in which refusals are asked.
 ghost use Rattle.std.specs.Prelude.{◌≡◌, Ok};
 ghost use Rattle.vx_plan.specs.Tree.{tree};
 ghost use Rattle.vx_plan.specs.Limits as limits;

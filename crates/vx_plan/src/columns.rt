@@ -1,3 +1,4 @@
+//! How many columns a node gives.
 ghost use Rattle.std.specs.Prelude.{◌≡◌, ◌≤◌, ◌+◌, IfSome};
 ghost use Rattle.vx_plan.specs.Tree.{tree};
 ghost use Rattle.vx_plan.specs.Limits as limits;
@@ -7,7 +8,7 @@ use crate::node::{Body, JoinKind, Node};
 
 /// How many columns a node gives, or None where it or a node below it has none or more than 64.
 pub fn columns_within(node: &Node) -> Option<usize>
-    ensures value { result ≡ limits.kept_columns (tree node.now) }
+    ensures is { result ≡ limits.kept_columns (tree node.now) }
     ensures within { IfSome result (λ n. n ≤ 64) }
 {
     match &node.body {
@@ -44,7 +45,7 @@ pub fn columns_within(node: &Node) -> Option<usize>
 }
 
 fn within(columns: usize) -> Option<usize>
-    ensures value { result ≡ limits.kept_width columns }
+    ensures is { result ≡ limits.kept_width columns }
     ensures within { IfSome result (λ n. n ≤ 64) }
 {
     if columns >= 1 && columns <= 64 {
@@ -57,7 +58,7 @@ fn within(columns: usize) -> Option<usize>
 /// A join that gives the columns of both sides may have up to 128, and then has too many.
 fn joined_columns(kind: JoinKind, left: usize, right: usize) -> Option<usize>
     requires { left ≤ 64 × right ≤ 64 }
-    ensures value { result ≡ limits.kept_width (limits.columns_joined kind left right) }
+    ensures is { result ≡ limits.kept_width (limits.columns_joined kind left right) }
     ensures within { IfSome result (λ n. n ≤ 64) }
 {
     match kind {
@@ -67,7 +68,7 @@ fn joined_columns(kind: JoinKind, left: usize, right: usize) -> Option<usize>
 }
 
 fn aggregation_columns(step: Step, keys: usize, aggregates: &[Aggregate]) -> Option<usize>
-    ensures value { result ≡ limits.kept_width (limits.columns_grouped step keys aggregates.now) }
+    ensures is { result ≡ limits.kept_width (limits.columns_grouped step keys aggregates.now) }
     ensures within { IfSome result (λ n. n ≤ 64) }
 {
     let mut columns = keys;
@@ -82,7 +83,7 @@ fn aggregation_columns(step: Step, keys: usize, aggregates: &[Aggregate]) -> Opt
 
 /// A partial sum is two columns.
 fn result_columns(step: Step, name: AggregateName) -> usize
-    ensures value { result ≡ limits.result_columns step name }
+    ensures is { result ≡ limits.result_columns step name }
     ensures few { result ≤ 2 }
 {
     match step {

@@ -1,3 +1,4 @@
+//! Copies of plans.
 ghost use Rattle.std.specs.Prelude.{◌≡◌, IfOk};
 
 use crate::aggregate::{Aggregate, Step};

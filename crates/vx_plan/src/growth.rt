@@ -1,3 +1,4 @@
+//! How many rows a node may give at most.
 ghost use Rattle.std.specs.Prelude.{◌≡◌, ◌≤◌, ◌^◌, IfSome};
 ghost use Rattle.vx_plan.specs.Tree.{tree};
 ghost use Rattle.vx_plan.specs.Limits as limits;
@@ -6,7 +7,7 @@ use crate::node::{Body, JoinKind, Node};
 
 /// A bound on the rows that a node gives, or None where it is more than 2^62 at the node or below it.
 pub fn growth_within(node: &Node) -> Option<u64>
-    ensures value { result ≡ limits.kept_growth (tree node.now) }
+    ensures is { result ≡ limits.kept_growth (tree node.now) }
     ensures within { IfSome result (λ n. n ≤ 2 ^ 62) }
 {
     match &node.body {
@@ -35,7 +36,7 @@ pub fn growth_within(node: &Node) -> Option<u64>
 }
 
 fn within(growth: u128) -> Option<u64>
-    ensures value { result ≡ limits.kept_size growth }
+    ensures is { result ≡ limits.kept_size growth }
     ensures within { IfSome result (λ n. n ≤ 2 ^ 62) }
 {
     if growth <= 1 << 62 {

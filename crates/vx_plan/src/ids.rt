@@ -1,3 +1,4 @@
+//! Ids that stand twice.
 ghost use Rattle.std.specs.Prelude.{◌≡◌, ◌≤◌, ◌<◌, ◌+◌, ◌++◌, ◌∷◌, [], length, nat_eq, IfOk};
 ghost use Rattle.std.specs.List.{list_any};
 ghost use Rattle.vx_plan.specs.Tree.{tree, pre_order};
@@ -53,7 +54,7 @@ impl Seen {
 /// The ids met with one more, or the refusal of one that was met before.
 fn enter(seen: Seen, id: u32) -> Result<Seen, Refusal>
     requires { length seen < 64 }
-    ensures value { result ≡ ids.enter seen id }
+    ensures is { result ≡ ids.enter seen id }
     ensures count { IfOk result (λ more. length more ≡ length seen + 1) }
 {
     let mut seen = seen;
@@ -68,7 +69,7 @@ fn enter(seen: Seen, id: u32) -> Result<Seen, Refusal>
 /// that was met before.
 pub fn enter_all(node: &Node, seen: Seen) -> Result<Seen, Refusal>
     requires { length seen + length (pre_order (tree node.now)) ≤ 64 }
-    ensures value { result ≡ ids.enter_all (tree node.now) seen }
+    ensures is { result ≡ ids.enter_all (tree node.now) seen }
     ensures count { IfOk result (λ more. length more ≡ length seen + length (pre_order (tree node.now))) }
 {
     match &node.body {

@@ -1,3 +1,4 @@
+//! The kinds of a node's columns, in a list of fixed room.
 ghost use Rattle.std.specs.Prelude.{◌≡◌, ◌≤◌, ◌<◌, ◌+◌, ◌++◌, ◌∷◌, [], length};
 
 use std::marker::Model;
@@ -32,7 +33,7 @@ impl Kinds {
     }
 
     pub fn as_slice(&self) -> &[Kind]
-        ensures value { result.now ≡ self.now }
+        ensures is { result.now ≡ self.now }
         ensures few { length result.now ≤ 64 }
     {
         &self.all[..self.len]

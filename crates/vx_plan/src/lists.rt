@@ -1,3 +1,4 @@
+//! Membership in lists of numbers.
 ghost use Rattle.std.specs.Prelude.{◌≡◌, nat_eq};
 ghost use Rattle.std.specs.List.{list_any, list_all};
 

@@ -1,3 +1,4 @@
+//! Plans and their nodes.
 use crate::aggregate::{Aggregate, Step};
 use sqlite_items::{Boxed, Items};
 use vx_expr::Expr;

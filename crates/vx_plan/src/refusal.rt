@@ -1,3 +1,4 @@
+//! Why a plan file is refused.
 use vx_expr::TypeError;
 
 /// Why a plan file is refused. The names are those that the program prints.

@@ -1,3 +1,4 @@
+//! How deep a plan's expressions are, and how long its texts.
 ghost use Rattle.std.specs.Prelude.{◌≡◌, map, nat_le};
 ghost use Rattle.vx_expr.specs.Depth.{greatest, depth, text_len as len_of_text, longest_literal as longest_text};
 ghost use Rattle.vx_plan.specs.declared.refusal.LimitName.TheVariants.{Depth, Text};

@@ -1,3 +1,4 @@
+//! The typing of a plan's nodes.
 ghost use Rattle.std.specs.Prelude.{◌≡◌, ◌≤◌, true, map, length, slice_get, Ok, IfOk};
 ghost use Rattle.vx_expr.specs.Typing.{type_of as type_of_expr, all_kinds};
 ghost use Rattle.vx_plan.specs.declared.refusal.LimitName.TheVariants.{Columns};
@@ -17,7 +18,7 @@ use vx_value::{Kind, SortKey};
 /// sources come before the node, left before right.
 pub fn node_kinds(node: &Node) -> Result<Kinds, Refusal>
     requires { keeps_everywhere Columns (tree node.now) ≡ true }
-    ensures value { result ≡ types.typed (tree node.now) }
+    ensures is { result ≡ types.typed (tree node.now) }
     ensures columns { IfOk result (λ kinds. length kinds ≡ columns (tree node.now)) }
 {
     match &node.body {
@@ -96,7 +97,7 @@ fn values_kinds(kinds: &[Kind]) -> Kinds
 }
 
 fn filter_kinds(predicate: &Expr, kinds: Kinds) -> Result<Kinds, TypeError>
-    ensures value { result ≡ on_ok (types.is_predicate (type_of_expr predicate.now kinds)) (λ _. Ok kinds) }
+    ensures is { result ≡ on_ok (types.is_predicate (type_of_expr predicate.now kinds)) (λ _. Ok kinds) }
     ensures columns { IfOk result (λ out. length out ≡ length kinds) }
 {
     let kind = type_of(predicate, kinds.as_slice())?;
@@ -109,7 +110,7 @@ fn filter_kinds(predicate: &Expr, kinds: Kinds) -> Result<Kinds, TypeError>
 
 fn project_kinds(exprs: &[Expr], kinds: &[Kind]) -> Result<Kinds, TypeError>
     requires { length exprs.now ≤ 64 }
-    ensures value { result ≡ all_kinds (map (λ e. type_of_expr e kinds.now) exprs.now) }
+    ensures is { result ≡ all_kinds (map (λ e. type_of_expr e kinds.now) exprs.now) }
     ensures columns { IfOk result (λ out. length out ≡ length exprs.now) }
 {
     let mut out = Kinds::new();
@@ -120,7 +121,7 @@ fn project_kinds(exprs: &[Expr], kinds: &[Kind]) -> Result<Kinds, TypeError>
 }
 
 fn sorted_kinds(keys: &[SortKey], kinds: Kinds) -> Result<Kinds, TypeError>
-    ensures value { result ≡ on_ok (types.are_there kinds (map (λ key. key.column) keys.now)) (λ _. Ok kinds) }
+    ensures is { result ≡ on_ok (types.are_there kinds (map (λ key. key.column) keys.now)) (λ _. Ok kinds) }
     ensures columns { IfOk result (λ out. length out ≡ length kinds) }
 {
     are_sort_keys_there(keys, kinds.as_slice())?;
@@ -137,7 +138,7 @@ fn are_sort_keys_there(keys: &[SortKey], kinds: &[Kind]) -> Result<(), TypeError
 }
 
 fn dealt_kinds(keys: &[u32], kinds: Kinds) -> Result<Kinds, TypeError>
-    ensures value { result ≡ on_ok (types.are_there kinds keys.now) (λ _. Ok kinds) }
+    ensures is { result ≡ on_ok (types.are_there kinds keys.now) (λ _. Ok kinds) }
     ensures columns { IfOk result (λ out. length out ≡ length kinds) }
 {
     are_there(keys, kinds.as_slice())?;
@@ -163,7 +164,7 @@ fn joined_kinds(
     right: &[Kind],
 ) -> Result<Kinds, TypeError>
     requires { columns_joined kind (length left) (length right.now) ≤ 64 }
-    ensures value { result ≡ types.kinds_joined kind left_keys.now right_keys.now left right.now }
+    ensures is { result ≡ types.kinds_joined kind left_keys.now right_keys.now left right.now }
     ensures columns { IfOk result (λ out. length out ≡ columns_joined kind (length left) (length right.now)) }
 {
     if left_keys.len() != right_keys.len() {
@@ -179,7 +180,7 @@ fn joined_kinds(
 
 fn joined_columns(kind: JoinKind, left: Kinds, right: &[Kind]) -> Kinds
     requires { columns_joined kind (length left) (length right.now) ≤ 64 }
-    ensures value { result ≡ types.joined kind left right.now }
+    ensures is { result ≡ types.joined kind left right.now }
     ensures columns { length result ≡ columns_joined kind (length left) (length right.now) }
 {
     match kind {

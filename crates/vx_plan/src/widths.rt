@@ -1,3 +1,4 @@
+//! To how many drivers each node gives its rows.
 ghost use Rattle.std.specs.Prelude.{◌≡◌};
 ghost use Rattle.vx_plan.specs.Tree.{tree};
 ghost use Rattle.vx_plan.specs.Widths as widths;

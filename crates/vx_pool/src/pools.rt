@@ -157,7 +157,7 @@ impl<L: Names> Tree<L> {
 
     /// The capacity that isn't reserved.
     pub fn unused(&self) -> u64
-        ensures value { result ≡ unused_of self.now }
+        ensures is { result ≡ unused_of self.now }
         ensures rule { IsTree self.now }
     {
         self.capacity.amount() - self.reserved[0]
@@ -168,7 +168,7 @@ impl<L: Names> Tree<L> {
     pub fn would(&self, leaf: u32, bytes: u64) -> u64
         requires leaf { IsLeaf self.now.parents leaf }
         requires bytes { bytes ≤ 2 ^ 40 }
-        ensures value { result ≡ would_reserve self.now leaf bytes }
+        ensures is { result ≡ would_reserve self.now leaf bytes }
         ensures rule { IsTree self.now }
     {
         let place = leaf as usize;
@@ -177,7 +177,7 @@ impl<L: Names> Tree<L> {
     }
 
     pub fn capacity(&self) -> u64
-        ensures value { result ≡ self.now.capacity }
+        ensures is { result ≡ self.now.capacity }
         ensures rule { IsTree self.now }
     {
         self.capacity.amount()
@@ -186,7 +186,7 @@ impl<L: Names> Tree<L> {
     /// What a node has reserved, be it a leaf or not.
     pub fn reserved(&self, node: u32) -> u64
         requires { node < node_count self.now }
-        ensures value { result ≡ reserved_of self.now node }
+        ensures is { result ≡ reserved_of self.now node }
         ensures rule { IsTree self.now }
     {
         self.reserved[node as usize]
@@ -195,7 +195,7 @@ impl<L: Names> Tree<L> {
     /// What a leaf uses.
     pub fn used(&self, leaf: u32) -> u64
         requires { IsLeaf self.now.parents leaf }
-        ensures value { result ≡ used_of self.now leaf }
+        ensures is { result ≡ used_of self.now leaf }
         ensures rule { IsTree self.now }
     {
         self.used[leaf as usize]
@@ -203,7 +203,7 @@ impl<L: Names> Tree<L> {
 
     /// The greatest amount that the root has had reserved.
     pub fn peak(&self) -> u64
-        ensures value { result ≡ self.now.peak }
+        ensures is { result ≡ self.now.peak }
         ensures rule { IsTree self.now }
     {
         self.peak

@@ -7,7 +7,7 @@ ghost use Rattle.vx_pool.specs.Quantum.{quantum, IsUnit};
 pub fn quantum(unit: u64, size: u64) -> u64
     requires unit { IsUnit unit }
     requires fits { quantum unit size < 2 ^ 64 }
-    ensures value { result ≡ quantum unit size }
+    ensures is { result ≡ quantum unit size }
     ensures enough { size ≤ result }
     ensures within { result < size + 8 * unit }
 {

@@ -37,7 +37,7 @@ impl<L: Names> Share<L> {
     }
 
     pub fn amount(&self) -> u64
-        ensures value { result ≡ self.now }
+        ensures is { result ≡ self.now }
         ensures within { result ≤ 2 ^ 33 }
     {
         self.amount

@@ -153,7 +153,7 @@ impl Bytes {
     pub(crate) fn lend_mut(&mut self, start: Start, len: usize) -> &mut [u8]
         requires { (start.at ≡ self.old.at) × (length self.old.bytes ≡ len) }
         ensures* writes_back { sem 𝓛 (lends_bytes self.entry result) }
-        ensures value { result.now ≡ self.old.bytes }
+        ensures is { result.now ≡ self.old.bytes }
     {
         unsafe { slice::from_raw_parts_mut(start.at, len) }
     }

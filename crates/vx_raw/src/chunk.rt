@@ -1,3 +1,4 @@
+//! One chunk of memory, freed where its owner goes.
 ghost use Rattle.std.specs.Prelude.{◌≡◌, ℕ, ◌+◌, ◌≤◌, List, [], IfOk, length, take, drop, replicate, unwrap_or};
 ghost use Rattle.vx_raw.specs.Region.{written};
 

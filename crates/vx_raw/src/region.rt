@@ -1,3 +1,4 @@
+//! Chunks of memory by number.
 ghost use Rattle.std.specs.Prelude.{◌≡◌, ◌+◌, ◌^◌, ◌<◌, ◌≤◌, [], IfOk, OnErr, length, take, drop};
 ghost use Rattle.vx_raw.specs.Region.{IsChunkSize, IsInside, chunk_at, bytes_held, after_grow, after_write, after_shed};
 

@@ -1,3 +1,4 @@
+//! Places of one length in a region, by number.
 ghost use Rattle.std.specs.Prelude.{◌≡◌, ◌+◌, ◌*◌, ◌^◌, ◌<◌, ◌≤◌, [], IfOk, OnOk, OnErr, length, take, drop, if◌then◌else◌};
 ghost use Rattle.std.specs.Int.{div_ceil};
 ghost use Rattle.vx_raw.specs.Region.{bytes_held, after_grow};

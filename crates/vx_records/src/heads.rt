@@ -1,3 +1,4 @@
+//! The head of a record: its flags, and the link to the next.
 ghost use Rattle.std.specs.Prelude.{◌≡◌, ◌+◌, ◌/◌, ◌%◌, ◌^◌, ◌<◌, ◌≤◌, ◌==◌, ◌++◌, IfOk, IfSome, OnErr, length};
 ghost use Rattle.std.specs.Int.{w32, to_le_bytes};
 ghost use Rattle.vx_records.specs.Frame.{frame_at, with_bytes, with_frame, and_frame};

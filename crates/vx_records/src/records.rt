@@ -1,3 +1,4 @@
+//! Numbered records of one length.
 ghost use Rattle.std.specs.Prelude.{◌≡◌, ◌+◌, ◌^◌, ◌<◌, ◌≤◌, true, [], is_some, IfOk, IfSome, OnErr, length};
 ghost use Rattle.vx_raw.specs.Region.{written};
 ghost use Rattle.vx_records.specs.Record.{record_in, record_at, fresh, with_record, without_record, IsLive, AddsRecord, chunk_bytes};

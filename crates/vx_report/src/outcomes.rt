@@ -1,3 +1,4 @@
+//! How a query ended, and the text that says so.
 use sqlite_items::Items;
 use vx_arb::AbortNote;
 use vx_expr::Fault;

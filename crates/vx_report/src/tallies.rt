@@ -1,3 +1,4 @@
+//! What a query took and gave back, and the line that says so.
 ghost use Rattle.std.specs.Prelude.{◌≡◌, IfOk};
 ghost use Rattle.vx_report.specs.Stats as spec;
 

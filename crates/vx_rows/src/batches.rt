@@ -1,3 +1,4 @@
+//! Rows of a batch, added all or none.
 ghost use Rattle.std.specs.Prelude.{◌≡◌, ◌≢◌, ℕ, ◌+◌, ◌<◌, ◌≤◌, length, max, slice_index, IfOk, OnErr};
 ghost use Rattle.std.specs.List.{range_with_len, sum_by};
 ghost use Rattle.vx_vector.specs.Batch.{kinds_of};

@@ -1,3 +1,4 @@
+//! The bytes of a row: null bits and slots.
 ghost use Rattle.std.specs.Prelude.{◌≡◌, ◌+◌, ◌/◌, ◌%◌, ◌<◌, ◌≤◌, length, replicate, slice_index, slice_set, IfOk};
 ghost use Rattle.std.specs.Vec.{vec_len};
 ghost use Rattle.vx_raw.specs.Region.{written};

@@ -1,3 +1,4 @@
+//! The row container: rows by number.
 ghost use Rattle.std.specs.Prelude.{◌≡◌, ◌+◌, ◌*◌, ◌^◌, ◌≤◌, ◌<◌, ◌↔◌, None, true, [], length, slice_index_or, slice_set, All, IfOk, OnErr, OnOk, IfSome, IsTrue, is_some};
 ghost use Rattle.std.specs.List.{filter, range_with_len, sum_by};
 ghost use Rattle.std.specs.Int.{div_ceil};

@@ -1,3 +1,4 @@
+//! Fields of a row, changed where it lies.
 ghost use Rattle.std.specs.Prelude.{◌≡◌, ◌+◌, ◌<◌, ◌≤◌, length};
 ghost use Rattle.vx_raw.specs.Region.{written};
 ghost use Rattle.vx_records.specs.Record.{IsLive, record_at, with_record};

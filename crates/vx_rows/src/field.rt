@@ -1,3 +1,4 @@
+//! What a field stores.
 ghost use Rattle.std.specs.Prelude.{◌≡◌};
 
 use vx_raw::Place;

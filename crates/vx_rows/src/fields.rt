@@ -1,3 +1,4 @@
+//! Columns and accumulators, one after another in a row.
 ghost use Rattle.std.specs.Prelude.{◌≡◌, ◌+◌, ◌*◌, ◌/◌, ◌<◌, ◌≤◌, [], ◌∷◌, ◌++◌, length, IfOk};
 ghost use Rattle.vx_rows.specs.Layout.{cell_len, end_of, field_at, field_len, fields_of, null_len, place_in, row_len, shape_of};
 

@@ -1,3 +1,4 @@
+//! Where the fields of a row's body stand.
 ghost use Rattle.std.specs.Prelude.{◌≡◌, ◌+◌, ◌/◌, ◌<◌, ◌≤◌, length, IfOk};
 ghost use Rattle.vx_rows.specs.Layout.{body_len, field_at, fields_of, null_len, place_of, row_len, rows_a_chunk};
 

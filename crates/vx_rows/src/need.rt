@@ -1,3 +1,4 @@
+//! How many bytes a put of a batch takes at most.
 ghost use Rattle.std.specs.Prelude.{◌≡◌, ◌*◌, ◌^◌, ◌≤◌, All, nat_le, length, if◌then◌else◌};
 ghost use Rattle.vx_arena.specs.Text.{block_bytes, cost_of};
 ghost use Rattle.vx_value.specs.Value.{owned, IsLawful};

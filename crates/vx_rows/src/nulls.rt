@@ -1,3 +1,4 @@
+//! The null bits of a row's body.
 ghost use Rattle.std.specs.Prelude.{◌≡◌, ◌/◌, ◌<◌, length};
 ghost use Rattle.vx_rows.specs.Nulls.{is_null_in, SetsBit};
 

@@ -1,3 +1,4 @@
+//! The bytes of a field's slot.
 ghost use Rattle.std.specs.Prelude.{◌≡◌, ◌^◌, ◌<◌, ◌≤◌, ◌==◌, length};
 ghost use Rattle.vx_rows.specs.Slot.{bool_in, front_in, int_in, len_in, place_in_slot, short_in, spelled_bool, spelled_int, spelled_long, spelled_short};
 

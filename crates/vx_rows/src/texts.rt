@@ -1,3 +1,4 @@
+//! Fields that store texts: short ones in the slot, longer ones in the arena.
 ghost use Rattle.std.specs.Prelude.{◌≡◌, ◌↔◌, [], ◌∷◌, ◌^◌, ◌≤◌, ◌<◌, IfOk, OnErr, IsTrue, length, map, take};
 ghost use Rattle.vx_arena.specs.Text.{bytes_at, IsText};
 ghost use Rattle.vx_value.specs.Value.{owned, IsLawful, IsText as IsLawfulText};

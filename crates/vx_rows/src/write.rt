@@ -1,3 +1,4 @@
+//! Bytes written over others.
 ghost use Rattle.std.specs.Prelude.{◌≡◌, ◌+◌, ◌≤◌, length};
 ghost use Rattle.vx_raw.specs.Region.{written};
 

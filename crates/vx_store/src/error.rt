@@ -1,3 +1,4 @@
+//! Why a call of a store failed.
 use std::alloc::{AllocError, AllocFailed};
 use thiserror::Error;
 

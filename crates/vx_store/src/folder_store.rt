@@ -1,3 +1,4 @@
+//! A store over files in a folder.
 ghost use Rattle.std.specs.Prelude.{◌≡◌, ◌≤◌, ◌+◌, OnOk, length};
 ghost use Rattle.vx_base.specs.Causes.{Rose};
 ghost use Rattle.vx_store.specs.Folder.{folder_view};

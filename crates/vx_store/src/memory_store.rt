@@ -1,3 +1,4 @@
+//! A store in memory, which fails at listed calls.
 ghost use Rattle.std.specs.Prelude.{◌≡◌, ◌+◌, ◌↔◌, ◌||◌, ◌≤◌, ◌<◌, true, Some, None, take, drop, IfSome, IfOk, IfErr, OnOk, OnErr, IsErrOf, length, slice_set};
 ghost use Rattle.vx_store.specs.Files.{bytes_at};
 ghost use Rattle.vx_store.specs.Memory.{files_of, store_view, new_store, next_fails, after_call, after_create, with_added, after_append, after_remove, is_past_end};

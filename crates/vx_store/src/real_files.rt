@@ -1,3 +1,4 @@
+//! A job's files in the folder, each opened anew for a call.
 // Calls on real files. Each answers what went wrong, and none counts it.
 ghost use Rattle.std.specs.Prelude.{◌≡◌, ◌+◌, ◌↔◌, IfOk, OnOk, length, string_bytes};
 ghost use Rattle.std.specs.Io.KnownBytes.{Consumes};

@@ -1,3 +1,4 @@
+//! Calls that are to fail, counted as they come.
 ghost use Rattle.std.specs.Prelude.{◌≡◌, ◌≤◌, true, false, cond};
 ghost use Rattle.vx_base.specs.Calls.{none_to_fail};
 ghost use Rattle.vx_store.specs.Script.{counted, is_to_fail};
@@ -26,7 +27,7 @@ impl Script {
     /// Counts a call, and its fault if it is one of those that fail.
     #[tactic(auto, using(crate::proofs::Scripts::none_is_later, crate::proofs::Scripts::next_is_fine))]
     pub fn next_fails(&mut self) -> bool
-        ensures value { result ≡ is_to_fail self.old.fails.items self.old.calls }
+        ensures is { result ≡ is_to_fail self.old.fails.items self.old.calls }
         ensures fails { self.new.fails ≡ self.old.fails }
         ensures calls { self.new.calls ≡ counted self.old.calls }
         ensures faults { self.new.faults ≡ cond result (counted self.old.faults) self.old.faults }

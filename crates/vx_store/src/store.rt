@@ -1,3 +1,4 @@
+//! Files that a query spills to: the contract.
 ghost use Rattle.std.specs.Prelude.{◌≡◌, ◌+◌, IfOk, IfErr, OnOk, OnErr};
 ghost use Rattle.vx_store.specs.Views.{StoreView};
 ghost use Rattle.vx_store.specs.Store.{IsThere, Stays, Creates, Appends, AppendsSome, Reads, IsPastEnd, Removes, MayRemove, Goes, Keeps, created_after};

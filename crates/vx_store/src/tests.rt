@@ -1,3 +1,4 @@
+//! Stores that fail where it is listed, and real files.
 use crate::real_files::read_part;
 use crate::{FolderStore, MemoryStore, Store, StoreError};
 use std::alloc::{AllocError, Global};

@@ -1,3 +1,4 @@
+//! FNV-1a over key bytes.
 ghost use Rattle.std.specs.Prelude.{◌≡◌};
 ghost use Rattle.vx_value.specs.Value.{owned, IsLawful};
 ghost use Rattle.vx_value.specs.KeyBytes.{value_bytes};

@@ -1,3 +1,4 @@
+//! The order of values, and when two are one value.
 ghost use Rattle.std.specs.Prelude.{◌≡◌, ◌↔◌, IsTrue};
 ghost use Rattle.vx_value.specs.Value.{owned};
 ghost use Rattle.vx_value.specs.Order as spec;

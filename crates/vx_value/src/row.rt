@@ -1,3 +1,4 @@
+//! Rows of values.
 ghost use Rattle.std.specs.Prelude.{◌≡◌, ◌<◌, length, IfOk};
 ghost use Rattle.vx_value.specs.Value.{owned, IsLawful};
 ghost use Rattle.vx_value.specs.Row.{value_at};
@@ -39,7 +40,7 @@ impl Row {
     /// The value in a column.
     pub fn get(&self, column: u32) -> ValueRef<'_>
         requires { column < length self.now }
-        ensures value { owned result ≡ value_at self.now column }
+        ensures is { owned result ≡ value_at self.now column }
         ensures lawful { IsLawful (owned result) }
     {
         self.cells[column as usize].as_ref()

@@ -1,3 +1,4 @@
+//! Sort keys, and rows compared by them.
 ghost use Rattle.std.specs.Prelude.{◌≡◌, ◌<◌, length, All};
 ghost use Rattle.vx_value.specs.Value.{owned};
 ghost use Rattle.vx_value.specs.Order as spec;

@@ -1,3 +1,4 @@
+//! Texts of at most 65,535 bytes.
 ghost use Rattle.std.specs.Prelude.{◌≡◌, ◌≤◌, length, string_bytes, IfOk, IsUtf8};
 
 use std::alloc::{AllocError, Global};

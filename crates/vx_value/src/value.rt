@@ -1,3 +1,4 @@
+//! Kinds and values.
 ghost use Rattle.std.specs.Prelude.{◌≡◌, IfOk};
 
 use crate::text::Txt;
@@ -45,7 +46,7 @@ impl Value {
     }
 
     pub fn as_ref(&self) -> ValueRef<'_>
-        ensures value { owned result ≡ self.now }
+        ensures is { owned result ≡ self.now }
         ensures lawful { IsLawful (owned result) }
     {
         match self {

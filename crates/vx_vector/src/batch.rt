@@ -1,3 +1,4 @@
+//! Batches: columns of one length.
 ghost use Rattle.std.specs.Prelude.{◌≡◌, IfOk};
 
 use crate::vector::Vector;

@@ -1,3 +1,4 @@
+//! How a vector stores its rows: flat, constant or dictionary.
 ghost use Rattle.std.specs.Prelude.{◌≡◌, ◌<◌, ◌↔◌, length, get_or, map, All, IfOk, IsTrue};
 ghost use Rattle.std.specs.List.{range_with_len};
 ghost use Rattle.vx_value.specs.Value.{owned, IsLawful};
@@ -48,7 +49,7 @@ impl Form {
     pub(crate) fn get(&self, row: usize) -> ValueRef<'_>
         requires sound { IsSound self.now }
         requires row { row < form_rows self.now }
-        ensures value { owned result ≡ form_value self.now row }
+        ensures is { owned result ≡ form_value self.now row }
         ensures lawful { IsLawful (owned result) }
         ensures kind { FitsKind (form_kind self.now) (owned result) }
     {

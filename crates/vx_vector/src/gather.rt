@@ -1,3 +1,4 @@
+//! Items at places of a list.
 ghost use Rattle.std.specs.Prelude.{◌≡◌, length, get_or, map, replicate, All, IfOk};
 ghost use Rattle.vx_vector.specs.Index.{IsIn, item_or};
 

@@ -1,3 +1,4 @@
+//! The places of a dictionary's rows in its base.
 ghost use Rattle.std.specs.Prelude.{◌≡◌, ℕ, ◌<◌, length, get_or, All, IfOk, None, Some, true};
 ghost use Rattle.vx_vector.specs.Index.{unless, through};
 

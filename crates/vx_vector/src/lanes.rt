@@ -1,3 +1,4 @@
+//! Typed buffers with a mark for each row.
 ghost use Rattle.std.specs.Prelude.{◌≡◌, ◌<◌, length, get_or, All, IfOk};
 ghost use Rattle.std.specs.Cow.{cow_value};
 ghost use Rattle.vx_value.specs.Value.{owned, IsLawful};
@@ -85,7 +86,7 @@ impl Lanes {
     /// The value of a row, where any mark but `FINE` means null.
     pub fn get(&self, row: usize) -> ValueRef<'_>
         requires { row < rows_of self.now }
-        ensures value { owned result ≡ value_of (lane_at self.now row) }
+        ensures is { owned result ≡ value_of (lane_at self.now row) }
         ensures lawful { IsLawful (owned result) }
         ensures kind { FitsKind (kind_of self.now) (owned result) }
     {

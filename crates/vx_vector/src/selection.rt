@@ -1,3 +1,4 @@
+//! Rows of a batch, by their places in ascending order.
 ghost use Rattle.std.specs.Prelude.{◌≡◌, ◌↔◌, ℕ, ◌<◌, length, get_or, IsTrue, IfOk};
 ghost use Rattle.std.specs.List.{range_with_len};
 ghost use Rattle.vx_vector.specs.Selection.{ascends};

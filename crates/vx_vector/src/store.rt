@@ -1,3 +1,4 @@
+//! Typed buffers made of values.
 ghost use Rattle.std.specs.Prelude.{◌≡◌, ℕ, ◌<◌, length, get_or, map, All, IfOk};
 ghost use Rattle.vx_vector.specs.Column.{FitsKind};
 ghost use Rattle.vx_vector.specs.Lane.{value_of};
@@ -41,7 +42,7 @@ fn bools_of(alloc: Global, values: &[Value]) -> Result<Bools, AllocError>
 }
 
 fn bool_lane(value: &Value) -> (bool, u8)
-    ensures value { result.0 ≡ bool_in value.now }
+    ensures is { result.0 ≡ bool_in value.now }
     ensures mark { result.1 ≡ bool_mark value.now }
 {
     match value {
@@ -68,7 +69,7 @@ fn ints_of(alloc: Global, values: &[Value]) -> Result<Ints, AllocError>
 }
 
 fn int_lane(value: &Value) -> (i64, u8)
-    ensures value { result.0 ≡ int_in value.now }
+    ensures is { result.0 ≡ int_in value.now }
     ensures mark { result.1 ≡ int_mark value.now }
 {
     match value {

@@ -1,3 +1,4 @@
+//! Texts of a column in one buffer.
 ghost use Rattle.std.specs.Prelude.{◌≡◌, ◌<◌, ◌≤◌, ◌+◌, [], ◌∷◌, ◌++◌, length, map, All, OnOk, OnErr, IfOk};
 ghost use Rattle.vx_value.specs.Value.{IsText};
 ghost use Rattle.vx_vector.specs.Place.{place_from, settled_place};

@@ -1,3 +1,4 @@
+//! Vectors: lists of values of one kind.
 ghost use Rattle.std.specs.Prelude.{◌≡◌, ◌<◌, length, map, replicate, All, IfOk, IsTrue, ◌↔◌};
 ghost use Rattle.std.specs.Bool.{OnFalse};
 ghost use Rattle.std.specs.Cow.{cow_value};
@@ -113,7 +114,7 @@ impl Vector {
     /// The value of a row.
     pub fn get(&self, row: u32) -> ValueRef<'_>
         requires { row < length self.now.values }
-        ensures value { owned result ≡ value_at self.now.values row }
+        ensures is { owned result ≡ value_at self.now.values row }
         ensures lawful { IsLawful (owned result) }
         ensures kind { FitsKind self.now.kind (owned result) }
     {

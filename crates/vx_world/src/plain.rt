@@ -61,7 +61,7 @@ fn leaf_would<L: Names>(tree: &Tree<L>, bytes: u64) -> u64
 fn set_used<L: Names>(tree: &mut Tree<L>, bytes: u64)
     requires shape { tree.old.parents ≡ 0 ∷ [] }
     requires room { bytes ≤ reserved_of tree.old 1 }
-    ensures value { tree.new ≡ with_used tree.old 1 bytes }
+    ensures is { tree.new ≡ with_used tree.old 1 bytes }
     ensures rule { IsTree tree.new }
 {
     let used = tree.used(LEAF);
@@ -77,7 +77,7 @@ fn use_up<L: Names>(tree: &mut Tree<L>, bytes: u64)
     requires shape { tree.old.parents ≡ 0 ∷ [] }
     requires small { bytes ≤ 2 ^ 33 }
     requires room { would_reserve tree.old 1 bytes ≤ tree.old.capacity }
-    ensures value { tree.new ≡ using tree.old bytes }
+    ensures is { tree.new ≡ using tree.old bytes }
     ensures rule { IsTree tree.new }
 {
     let ahead = tree.ahead(LEAF, bytes);
@@ -88,7 +88,7 @@ fn use_up<L: Names>(tree: &mut Tree<L>, bytes: u64)
 
 fn empty<L: Names>(tree: &mut Tree<L>)
     requires { tree.old.parents ≡ 0 ∷ [] }
-    ensures value { tree.new ≡ emptied tree.old }
+    ensures is { tree.new ≡ emptied tree.old }
     ensures rule { IsTree tree.new }
 {
     let used = tree.used(LEAF);
@@ -129,7 +129,7 @@ impl<L: Names> PlainMember<L> {
     fn follow(&mut self)
         requires ahead { self.old.next < length self.old.script }
         requires room { would_at self.old ≤ self.old.pools.capacity }
-        ensures value { self.new ≡ record self.old {
+        ensures is { self.new ≡ record self.old {
           pools = using self.old.pools (slice_index self.old.script self.old.next);
           next = self.old.next + 1;
         } }
@@ -143,7 +143,7 @@ impl<L: Names> PlainMember<L> {
     // Gives all back, and answers what was reserved.
     fn give_back(&mut self) -> u64
         ensures freed { result ≡ reserved_at self.old }
-        ensures value { self.new ≡ record self.old { pools = emptied self.old.pools } }
+        ensures is { self.new ≡ record self.old { pools = emptied self.old.pools } }
         ensures none { reserved_at self.new ≡ 0 }
         ensures nothing { result ≡ 0 → self.new ≡ self.old }
         ensures unused { used_of self.new.pools 1 ≡ 0 }
@@ -155,7 +155,7 @@ impl<L: Names> PlainMember<L> {
     }
 
     fn end(&mut self)
-        ensures value { self.new ≡ record self.old { pools = emptied self.old.pools; ended = true } }
+        ensures is { self.new ≡ record self.old { pools = emptied self.old.pools; ended = true } }
         ensures none { reserved_at self.new ≡ 0 }
         ensures rule { IsWithin (capacity_at self.new) (reserved_at self.new) (unused_at self.new) }
     {

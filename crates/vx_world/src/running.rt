@@ -52,7 +52,7 @@ impl<L: Names, M: Member<L> + Drop> World<L, M> {
 
     /// Whether an event may be made.
     pub fn may_make(&self, event: Event) -> bool
-        ensures value { result ≡ is_lawful M.Member self.now event }
+        ensures is { result ≡ is_lawful M.Member self.now event }
         ensures rule { IsWorld M.Member self.now }
     {
         match event {
@@ -144,7 +144,7 @@ impl<L: Names, M: Member<L> + Drop> World<L, M> {
 
     /// The arbitrator, with its log.
     pub fn arb(&self) -> &Arb<L>
-        ensures value { result.now ≡ self.now.books }
+        ensures is { result.now ≡ self.now.books }
         ensures rule { IsWorld M.Member self.now }
     {
         &self.arb

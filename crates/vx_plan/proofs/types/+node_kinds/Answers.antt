@@ -31,8 +31,8 @@ joined_kinds-requires t c =
     (c.in_ok-left-in-Join.ensures.columns ∙ ap (λ s. columns (tree s)) c.get-in-Join.ensures)
     (ap length c.as_slice-in-Join-3.ensures.value ∙ c.in_ok-right-in-Join.ensures.columns ∙ ap (λ s. columns (tree s)) c.get-in-Join-2.ensures)
 
-pub returns-in_ok-kinds-in-Project-clause-value : goal.returns-in_ok-kinds-in-Project-clause-value
-returns-in_ok-kinds-in-Project-clause-value t c =
+pub returns-in_ok-kinds-in-Project-clause-is : goal.returns-in_ok-kinds-in-Project-clause-is
+returns-in_ok-kinds-in-Project-clause-is t c =
     let n = c.args.node.now in
     let p = c.in-Project in
     projected (tree n) (tree c.get-in-Project.result.now) n.id p.exprs c.as_slice-in-Project.result.now c.in_ok-kinds-in-Project.kinds c.as_slice-in-Project-2.result.now c.named-in-Project.result c.project_kinds.result

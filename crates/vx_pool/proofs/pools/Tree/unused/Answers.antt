@@ -9,8 +9,8 @@ overflow_sub-result g c =
     let within = c.self.invariant.tree.within in
     omega (arith, root, within, c.amount.ensures.value)
 
-pub returns-clause-value : goal.returns-clause-value
-returns-clause-value g c =
+pub returns-clause-is : goal.returns-clause-is
+returns-clause-is g c =
     subst (λ (pools : Pools). c.amount.result - c.index.result.now ≡ unused_of pools) c.self.view_is
     (let root = sum_is _ c.self.inside.reserved.items c.self.invariant 0 _ (omega arith) c.index.ensures in
     rw (← root, ← c.amount.ensures.value) refl)

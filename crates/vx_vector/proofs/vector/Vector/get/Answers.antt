@@ -5,5 +5,5 @@ use Rattle.std.proofs.Common.{◌∙◌, sym, arith}
 pub get-requires-clause-row : goal.get-requires-clause-row
 get-requires-clause-row c = omega (arith, rows_seen c.self.inside.form c.args.self.now c.self.view_is)
 
-pub returns-clause-value : goal.returns-clause-value
-returns-clause-value c = c.get.ensures.value ∙ sym (value_seen c.self.inside.form c.args.self.now c.self.view_is c.args.row c.requires)
+pub returns-clause-is : goal.returns-clause-is
+returns-clause-is c = c.get.ensures.value ∙ sym (value_seen c.self.inside.form c.args.self.now c.self.view_is c.args.row c.requires)

@@ -1,9 +1,5 @@
-//! Worked cases of the crates of counted memory, from chunks to rows.
+//! Worked cases of the crates of counted memory below rows.
 
-mod batches;
 mod chunks;
-mod kinds;
-mod needs;
 mod records;
-mod rows;
 mod texts;

@@ -1,0 +1,6 @@
+//! Worked cases of rows.
+
+mod batches;
+mod kinds;
+mod needs;
+mod rows;

@@ -10,5 +10,5 @@ pub returns-in-Count : goal.returns-in-Count
 returns-in-Count c =
     let folded : AggregateName → Value = λ name. fold_of c.args.step (record { name = name; column = c.args.aggregate.column }) c.args.rows.now in
     subst (λ o. IfOk c.push_int.result (Pushes c.args.cells.now.items c.push_int.new.cells.items o))
-    (ap one_cell c.count.ensures.value ∙ count-finish c.args.step c.args.aggregate.column c.args.rows.now (omega arith) ∙ ap (λ name. finish c.args.step name (folded name)) (sym c.in-Count.is))
+    (ap one_cell c.count.ensures.is ∙ count-finish c.args.step c.args.aggregate.column c.args.rows.now (omega arith) ∙ ap (λ name. finish c.args.step name (folded name)) (sym c.in-Count.is))
     c.push_int.ensures

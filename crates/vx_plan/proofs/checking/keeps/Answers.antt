@@ -22,9 +22,9 @@ returns-in-Cells c =
 pub returns-in-Columns : goal.returns-in-Columns
 returns-in-Columns c =
     let t = tree c.args.node.now in
-    kept_as c.args.name Columns t c.is_some-in-Columns.result c.in-Columns.is (c.is_some-in-Columns.ensures ∙ ap is_some c.columns_within.ensures.value ∙ some_columns t)
+    kept_as c.args.name Columns t c.is_some-in-Columns.result c.in-Columns.is (c.is_some-in-Columns.ensures ∙ ap is_some c.columns_within.ensures.is ∙ some_columns t)
 
 pub returns-in-Growth : goal.returns-in-Growth
 returns-in-Growth c =
     let t = tree c.args.node.now in
-    kept_as c.args.name Growth t c.is_some-in-Growth.result c.in-Growth.is (c.is_some-in-Growth.ensures ∙ ap is_some c.growth_within.ensures.value ∙ some_growth t)
+    kept_as c.args.name Growth t c.is_some-in-Growth.result c.in-Growth.is (c.is_some-in-Growth.ensures ∙ ap is_some c.growth_within.ensures.is ∙ some_growth t)

@@ -29,7 +29,7 @@ joined_kinds-requires t c =
     let is = tree-Join n j.kind j.left_keys j.right_keys j.left j.right j.is in
     few_joined (tree n) n.id j.kind j.left_keys j.right_keys (tree j.left) (tree j.right) (length c.in_ok-left-in-Join.left) (length c.as_slice-in-Join-3.result.now) is c.requires
     (c.in_ok-left-in-Join.ensures.columns ∙ ap (λ s. columns (tree s)) c.get-in-Join.ensures)
-    (ap length c.as_slice-in-Join-3.ensures.value ∙ c.in_ok-right-in-Join.ensures.columns ∙ ap (λ s. columns (tree s)) c.get-in-Join-2.ensures)
+    (ap length c.as_slice-in-Join-3.ensures.is ∙ c.in_ok-right-in-Join.ensures.columns ∙ ap (λ s. columns (tree s)) c.get-in-Join-2.ensures)
 
 pub returns-in_ok-kinds-in-Project-clause-is : goal.returns-in_ok-kinds-in-Project-clause-is
 returns-in_ok-kinds-in-Project-clause-is t c =
@@ -37,4 +37,4 @@ returns-in_ok-kinds-in-Project-clause-is t c =
     let p = c.in-Project in
     projected (tree n) (tree c.get-in-Project.result.now) n.id p.exprs c.as_slice-in-Project.result.now c.in_ok-kinds-in-Project.kinds c.as_slice-in-Project-2.result.now c.named-in-Project.result c.project_kinds.result
     (tree-Project n p.exprs p.source p.is ∙ ap (λ s. over n.id (project p.exprs) (tree s)) (sym c.get-in-Project.ensures))
-    c.in_ok-kinds-in-Project.ensures.value c.as_slice-in-Project.ensures c.as_slice-in-Project-2.ensures.value c.project_kinds.ensures.value c.named-in-Project.ensures
+    c.in_ok-kinds-in-Project.ensures.is c.as_slice-in-Project.ensures c.as_slice-in-Project-2.ensures.is c.project_kinds.ensures.is c.named-in-Project.ensures

@@ -35,7 +35,7 @@ returns-in-Err-clause-err c =
     let at_index = subst (λ (l : List Column). c.index.result.now ≡ get_or l c.loop-which.which c.index.result.now) (ap (λ (b : BatchModel). b.columns) c.batch.view_is) c.index.ensures in
     filled_back c.args.arena.now c.loop-which.arena c.store.new.arena c.release.new.arena (empty_of c.args.layout.now) (all_stored c.args.layout.now c.loop-which.body) (row_of columns c.args.at) c.loop-which.which (owned c.get.result)
     (omega (arith, many, c.loop-which-test.true, c.len-which-end.ensures, many_cells columns c.args.at))
-    (column_value columns c.loop-which.which c.args.at c.index.result.now (owned c.get.result) (omega (arith, many, c.loop-which-test.true, c.len-which-end.ensures)) at_index c.get.ensures.value)
+    (column_value columns c.loop-which.which c.args.at c.index.result.now (owned c.get.result) (omega (arith, many, c.loop-which-test.true, c.len-which-end.ensures)) at_index c.get.ensures.is)
     c.loop-which.invariant.filled c.in-Err.ensures.err c.release.ensures
 
 pub loop-which-preserved : goal.loop-which-preserved
@@ -48,6 +48,6 @@ loop-which-preserved c =
       filled = filled_more c.args.arena.now c.loop-which.arena c.store.new.arena c.args.layout.now (all_stored c.args.layout.now c.loop-which.body) (row_of columns c.args.at) (kinds_of columns) c.loop-which.which (owned c.get.result) (seen c.in-Ok.stored) c.requires.columns
           (omega (arith, many, c.loop-which-test.true, c.len-which-end.ensures, many_kinds columns))
           (omega (arith, many_kinds columns, many_cells columns c.args.at))
-          (column_value columns c.loop-which.which c.args.at c.index.result.now (owned c.get.result) (omega (arith, many, c.loop-which-test.true, c.len-which-end.ensures)) at_index c.get.ensures.value)
+          (column_value columns c.loop-which.which c.args.at c.index.result.now (owned c.get.result) (omega (arith, many, c.loop-which-test.true, c.len-which-end.ensures)) at_index c.get.ensures.is)
           c.in-Ok.ensures.ok c.loop-which.invariant.filled (all_stored c.args.layout.now c.put.new.body) c.put.ensures.is;
     }

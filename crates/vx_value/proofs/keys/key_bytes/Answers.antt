@@ -11,7 +11,7 @@ pub loop-column-preserved : goal.loop-column-preserved
 loop-column-preserved c = (
   grind (arith, common_steps),
   All-more (λ column. IsLawful (value_at c.args.row.now column)) c.args.columns.now c.loop-column.column-index 0 (omega arith) c.loop-column.invariant.1
-      (subst IsLawful c.get.ensures.value c.get.ensures.lawful),
+      (subst IsLawful c.get.ensures.is c.get.ensures.lawful),
 )
 
 pub returns-clause-lawful : goal.returns-clause-lawful

@@ -4,7 +4,7 @@ use Rattle.vx_world.proofs.seats.is_idle.Goals as goal
 
 pub returns-in-Some : goal.returns-in-Some
 returns-in-Some g c =
-    ap (λ (n : ℕ). eqb n 0) c.reserved.ensures.value
+    ap (λ (n : ℕ). eqb n 0) c.reserved.ensures.is
     ∙ test_found g.M.Member c.args.members.now c.args.job c.in-Some.place c.index-members-place.result (λ member. eqb (g.M.Member.reserved_is member) 0)
     (sym c.seat_of.ensures ∙ c.in-Some.is) c.index-members-place.is
 

@@ -8,7 +8,7 @@ use Rattle.vx_arb.proofs.arbiter.Arb.grant.Goals as goal
 pub raise-requires : goal.raise-requires
 raise-requires g c =
     let b : IsBooks c.args.self.now = rule_now _ c.args.self.now _ c.self.view_is c.self.invariant in
-    let free : c.amount-free.result ≡ c.args.self.now.free = c.amount-free.ensures.value ∙ ap (λ (b : Books). b.free) c.self.view_is in
+    let free : c.amount-free.result ≡ c.args.self.now.free = c.amount-free.ensures.is ∙ ap (λ (b : Books). b.free) c.self.view_is in
     omega (arith, b.adds_up, b.bounded, capacity_in_sum c.args.self.now.live (g.M.Member.job_is c.args.member.now), c.requires.tied.same, c.hand_out-share.ensures.share, c.if-need-free.false, free)
 
 pub returns-clause-tied : goal.returns-clause-tied

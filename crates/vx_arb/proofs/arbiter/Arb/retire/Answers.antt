@@ -13,7 +13,7 @@ invariant_of-self g c =
     retired_kept _ c.args.self.now c.args.job c.args.share _ c.join.new.self _ c.push_reserved.new.self.items c.take_out.new.live.items
     c.self.view_is c.self.invariant c.requires.live c.requires.whole c.requires.quiet
     c.join.ensures
-    (c.push_reserved.ensures.items ∙ ap (λ (n : ℕ). c.self.inside.log.items ++ Retire c.args.job n ∷ []) c.amount-amount.ensures.value)
+    (c.push_reserved.ensures.items ∙ ap (λ (n : ℕ). c.self.inside.log.items ++ Retire c.args.job n ∷ []) c.amount-amount.ensures.is)
     c.take_out.ensures c.push_reserved.ensures.capacity
 
 pub returns-clause-rule : goal.returns-clause-rule

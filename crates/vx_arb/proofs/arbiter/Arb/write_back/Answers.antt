@@ -10,7 +10,7 @@ invariant_of-self g c =
     taken_kept _ c.args.self.now c.args.job c.args.back c.args.entry c.args.standing _ c.join.new.self (c.capacity_in.result - c.amount.result) _ c.push_reserved.new.self.items c.set_capacity.new.live.items
     c.self.view_is c.self.invariant c.requires
     c.join.ensures c.push_reserved.ensures.items c.set_capacity.ensures
-    (rw (c.capacity_in.ensures, c.deref.ensures.value, c.amount.ensures.value) refl)
+    (rw (c.capacity_in.ensures, c.deref.ensures.value, c.amount.ensures.is) refl)
     c.push_reserved.ensures.capacity
 
 pub returns-clause-rule : goal.returns-clause-rule

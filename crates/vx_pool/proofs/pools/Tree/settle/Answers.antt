@@ -18,7 +18,7 @@ set_path-requires-clause-fits g c =
     let is_leaf : IsLeaf c.self.inside.parents.items c.args.leaf =
     leaf_seen _ c.args.self.now c.args.leaf c.self.view_is c.requires in
     let used : c.index.result.now ≤ 2 ^ 33 = used_bounded _ c.self.inside.reserved.items c.self.invariant c.args.leaf is_leaf _ c.index.ensures in
-    rw (c.deref_mut.ensures.value, c.quantum-amount.ensures.value)
+    rw (c.deref_mut.ensures.value, c.quantum-amount.ensures.is)
     (amount_fits _ c.self.inside.reserved.items c.self.invariant c.args.leaf is_leaf c.index.result.now (omega arith))
 
 pub invariant_of-self : goal.invariant_of-self
@@ -27,7 +27,7 @@ invariant_of-self g c =
     leaf_seen _ c.args.self.now c.args.leaf c.self.view_is c.requires in
     let used : c.index.result.now ≡ get_or c.self.inside.used.items c.args.leaf 0 = used_is _ c.self.inside.reserved.items c.self.invariant c.args.leaf is_leaf _ c.index.ensures in
     let amount : c.quantum-amount.result ≡ quantum c.self.inside.unit (get_or c.self.inside.used.items c.args.leaf 0) =
-    c.quantum-amount.ensures.value ∙ ap (λ n. quantum c.self.inside.unit n) used in
+    c.quantum-amount.ensures.is ∙ ap (λ n. quantum c.self.inside.unit n) used in
     let moves : Moves c.self.inside.parents.items c.self.inside.reserved.items c.set_path.new.sums c.args.leaf (quantum c.self.inside.unit (get_or c.self.inside.used.items c.args.leaf 0)) =
     rw (← amount, ← c.deref.ensures.value, ← c.deref_mut.ensures.value) c.set_path.ensures in
     let size : c.self.inside.reserved.len ≡ length c.set_path.new.sums =

@@ -7,10 +7,10 @@ pub overflow_sub-result : goal.overflow_sub-result
 overflow_sub-result g c =
     let root = sum_is _ c.self.inside.reserved.items c.self.invariant 0 _ (omega arith) c.index.ensures in
     let within = c.self.invariant.tree.within in
-    omega (arith, root, within, c.amount.ensures.value)
+    omega (arith, root, within, c.amount.ensures.is)
 
 pub returns-clause-is : goal.returns-clause-is
 returns-clause-is g c =
     subst (λ (pools : Pools). c.amount.result - c.index.result.now ≡ unused_of pools) c.self.view_is
     (let root = sum_is _ c.self.inside.reserved.items c.self.invariant 0 _ (omega arith) c.index.ensures in
-    rw (← root, ← c.amount.ensures.value) refl)
+    rw (← root, ← c.amount.ensures.is) refl)

@@ -23,7 +23,7 @@ overflow_add-result g c =
     let is_leaf : IsLeaf c.self.inside.parents.items c.args.leaf =
     leaf_seen _ c.args.self.now c.args.leaf c.self.view_is c.requires.leaf in
     let amount : c.quantum.result ≡ quantum c.self.inside.unit (max c.index.result.now c.args.bytes) =
-    c.quantum.ensures.value ∙ ap (λ n. quantum c.self.inside.unit n) c.max-wanted.ensures in
+    c.quantum.ensures.is ∙ ap (λ n. quantum c.self.inside.unit n) c.max-wanted.ensures in
     let fits : c.index-2.result.now + c.quantum.result < 2 ^ 64 =
     would_fits _ c.self.inside.reserved.items c.self.invariant c.args.leaf c.args.bytes c.index.result.now c.index-2.result.now c.index-3.result.now c.quantum.result is_leaf c.index.ensures c.index-2.ensures c.index-3.ensures amount c.requires.bytes in
     omega (arith, fits)
@@ -33,5 +33,5 @@ returns-clause-is g c =
     let is_leaf : IsLeaf c.self.inside.parents.items c.args.leaf =
     leaf_seen _ c.args.self.now c.args.leaf c.self.view_is c.requires.leaf in
     let amount : c.quantum.result ≡ quantum c.self.inside.unit (max c.index.result.now c.args.bytes) =
-    c.quantum.ensures.value ∙ ap (λ n. quantum c.self.inside.unit n) c.max-wanted.ensures in
+    c.quantum.ensures.is ∙ ap (λ n. quantum c.self.inside.unit n) c.max-wanted.ensures in
     would_seen _ c.self.inside.reserved.items c.self.invariant c.args.leaf c.args.bytes c.index.result.now c.index-2.result.now c.index-3.result.now c.quantum.result is_leaf c.index.ensures c.index-2.ensures c.index-3.ensures amount c.args.self.now c.self.view_is

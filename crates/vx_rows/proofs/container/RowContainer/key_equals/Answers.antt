@@ -36,7 +36,7 @@ returns-then-not-is_stored c =
     let few : s.columns ≤ length s.layout = c.self.invariant.few in
     let own : get_or row.cells (get_or c.args.columns.now c.loop-place.place 0) values.Null ≡ value_of s.arena (seen c.field-stored.result) = cell_of_live s.arena s.columns s.layout parts.r row which (seen c.field-stored.result) c.body-body.result.now parts.is (own_body s.arena s.arena s.columns s.layout s.records s.records s.empty.items s.scratch.items c.args.row row c.body-body.result.now c.self.invariant parts c.body-body.ensures.is) less few c.field-stored.ensures in
     let at_index = subst (λ (l : List Column). c.index.result.now ≡ get_or l of c.index.result.now) (ap (λ (b : BatchModel). b.columns) c.batch.view_is) c.index.ensures in
-    let other : get_or (row_of c.args.batch.now.columns c.args.at) (get_or c.args.of.now c.loop-place.place 0) values.Null ≡ owned c.get-value.result = column_value c.args.batch.now.columns of c.args.at c.index.result.now (owned c.get-value.result) (c.requires.of c.loop-place.place 0 (omega (arith, c.loop-place-test.true, c.requires.many))) at_index c.get-value.ensures.value in (
+    let other : get_or (row_of c.args.batch.now.columns c.args.at) (get_or c.args.of.now c.loop-place.place 0) values.Null ≡ owned c.get-value.result = column_value c.args.batch.now.columns of c.args.at c.index.result.now (owned c.get-value.result) (c.requires.of c.loop-place.place 0 (omega (arith, c.loop-place-test.true, c.requires.many))) at_index c.get-value.ensures.is in (
       λ so. let no_so : ⊥ = cc in absurd no_so,
       λ same.
           let equal : value_of s.arena (seen c.field-stored.result) ≡ owned c.get-value.result = sym own ∙ (key_at c.args.columns.now c.args.of.now row.cells (row_of c.args.batch.now.columns c.args.at) c.loop-place.place c.requires.many c.loop-place-test.true same ∙ other) in
@@ -55,6 +55,6 @@ loop-place-preserved c =
     let few : s.columns ≤ length s.layout = c.self.invariant.few in
     let own : get_or row.cells (get_or c.args.columns.now c.loop-place.place 0) values.Null ≡ value_of s.arena (seen c.field-stored.result) = cell_of_live s.arena s.columns s.layout parts.r row which (seen c.field-stored.result) c.body-body.result.now parts.is (own_body s.arena s.arena s.columns s.layout s.records s.records s.empty.items s.scratch.items c.args.row row c.body-body.result.now c.self.invariant parts c.body-body.ensures.is) less few c.field-stored.ensures in
     let at_index = subst (λ (l : List Column). c.index.result.now ≡ get_or l of c.index.result.now) (ap (λ (b : BatchModel). b.columns) c.batch.view_is) c.index.ensures in
-    let other : get_or (row_of c.args.batch.now.columns c.args.at) (get_or c.args.of.now c.loop-place.place 0) values.Null ≡ owned c.get-value.result = column_value c.args.batch.now.columns of c.args.at c.index.result.now (owned c.get-value.result) (c.requires.of c.loop-place.place 0 (omega (arith, c.loop-place-test.true, c.requires.many))) at_index c.get-value.ensures.value in
+    let other : get_or (row_of c.args.batch.now.columns c.args.at) (get_or c.args.of.now c.loop-place.place 0) values.Null ≡ owned c.get-value.result = column_value c.args.batch.now.columns of c.args.at c.index.result.now (owned c.get-value.result) (c.requires.of c.loop-place.place 0 (omega (arith, c.loop-place-test.true, c.requires.many))) at_index c.get-value.ensures.is in
     let equal : value_of s.arena (seen c.field-stored.result) ≡ owned c.get-value.result = c.is_stored.ensures.0 c.if-not-is_stored.false in
     keys_more c.args.columns.now c.args.of.now row.cells (row_of c.args.batch.now.columns c.args.at) c.loop-place.place c.requires.many c.loop-place-test.true c.loop-place.invariant (own ∙ (equal ∙ sym other))

@@ -6,4 +6,4 @@ pub get-requires-clause-row : goal.get-requires-clause-row
 get-requires-clause-row c = omega (arith, rows_seen c.self.inside.form c.args.self.now c.self.view_is)
 
 pub returns-clause-is : goal.returns-clause-is
-returns-clause-is c = c.get.ensures.value ∙ sym (value_seen c.self.inside.form c.args.self.now c.self.view_is c.args.row c.requires)
+returns-clause-is c = c.get.ensures.is ∙ sym (value_seen c.self.inside.form c.args.self.now c.self.view_is c.args.row c.requires)
